@@ -1,10 +1,10 @@
 -- The words compute on literals.
 use Rattle.std.specs.Prelude.{◌≡◌, pos, negsuc, true, false}
 use Rattle.std.proofs.Common.{refl}
-use Rattle.std.specs.declared.cmp.Ordering.TheVariants.{Less, Equal, Greater}
+use Rattle.std.specs.declared.cmp.Ordering.TheVariants.{Less}
 use Rattle.hc_rational.specs.Gcd.{gcd}
-use Rattle.hc_rational.specs.Rational.{Rational, whole, quotient, ratio, zero_ℚ, one_ℚ, ◌+ℚ◌, ◌-ℚ◌, neg_ℚ, ◌*ℚ◌, ◌/ℚ◌}
-use Rattle.hc_rational.specs.Order.{rank, lesser, greater, is_zero, is_negative, is_positive}
+use Rattle.hc_rational.specs.Rational.{whole, quotient, ratio, zero_ℚ, one_ℚ, ◌+ℚ◌, ◌-ℚ◌, ◌*ℚ◌, ◌/ℚ◌}
+use Rattle.hc_rational.specs.Order.{rank, lesser}
 use Rattle.hc_rational.specs.Fits.{fits}
 
 half-less-third : quotient (pos 1) 2 +ℚ quotient (negsuc 0) 3 ≡ quotient (pos 5) 30

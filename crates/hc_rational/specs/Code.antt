@@ -1,7 +1,7 @@
 -- A rational is known by its two parts, and so it can be what a contract sees of a value.
 use Rattle.std.specs.Prelude.{◌≡◌, ℕ, zero, suc, ◌/◌, ◌<◌, T, ◌==◌, nat_lt, ℤ, pos, negsuc, neg_ℤ, unsigned_abs, int_div}
 use Rattle.std.specs.Coded.{Coded, code_by, coded×, coded_ℤ, coded_ℕ}
-use Rattle.std.proofs.Common.{refl, ap, ◌∙◌, subst, arith}
+use Rattle.std.proofs.Common.{ap, ◌∙◌, subst, arith}
 use Rattle.std.proofs.Math.Dec.{T_prop, ltb→lt, eqb→eq}
 use Rattle.std.proofs.Math.Nat.{div-one}
 use Rattle.hc_rational.specs.Gcd.{gcd}

@@ -1,6 +1,6 @@
 -- What makes the two parts of a rational lowest terms: lemmas that the definition of a rational needs.
-use Rattle.std.specs.Prelude.{◌≡◌, ℕ, zero, suc, ◌+◌, ◌*◌, ◌/◌, ◌%◌, ◌<◌, ◌≤◌, T, ◌==◌, nat_lt, ℤ, pos, negsuc, neg_ℤ, unsigned_abs, int_div}
-use Rattle.std.specs.Int.{IsGcd, ◌∣◌}
+use Rattle.std.specs.Prelude.{◌≡◌, ℕ, zero, suc, ◌+◌, ◌*◌, ◌/◌, ◌%◌, ◌<◌, T, ◌==◌, nat_lt, ℤ, pos, negsuc, neg_ℤ, unsigned_abs, int_div}
+use Rattle.std.specs.Int.{IsGcd}
 use Rattle.std.proofs.Common.{refl, sym, ap, ap₂, ◌∙◌, subst, arith}
 use Rattle.std.proofs.Math.Dec.{lt→ltb, eqb_refl}
 use Rattle.std.proofs.Math.Nat.{mod-one, div-mul_cancel, eq_of_mul-eq-mul_right, pos_of_dvd_of_pos}

@@ -1,12 +1,11 @@
 -- The order of rational numbers.
-use Rattle.std.specs.Prelude.{◌≡◌, ℕ, Bool, true, false, ◌==◌, ◌↔◌, ℤ, pos, negsuc, ◌*ℤ◌, ◌≤ℤ◌, ◌<ℤ◌, int_lt, unsigned_abs}
+use Rattle.std.specs.Prelude.{◌≡◌, Bool, ◌==◌, ◌↔◌, pos, ◌*ℤ◌, ◌≤ℤ◌, ◌<ℤ◌, int_lt, unsigned_abs}
 use Rattle.std.specs.declared.cmp.Ordering.{Ordering}
 use Rattle.std.specs.declared.cmp.Ordering.TheVariants.{Less, Equal, Greater}
 use Rattle.std.specs.Ordering.{int_cmp}
 use Rattle.hc_rational.specs.Rational.{Rational}
 
 infix 4 ◌≤ℚ◌ ◌<ℚ◌
-
 -- q is at most r
 pub record ◌≤ℚ◌ (q r : Rational) : Type 0 where
   pub le : (q.num *ℤ pos r.den) ≤ℤ (r.num *ℤ pos q.den)

@@ -1,13 +1,11 @@
 -- Rational numbers of any size, in lowest terms, so that two are equal exactly where they are the same number.
 use Rattle.std.specs.Prelude.{ℕ, zero, suc, ◌*◌, ◌/◌, T, ◌==◌, nat_lt, ℤ, pos, ◌+ℤ◌, ◌*ℤ◌, neg_ℤ, unsigned_abs, int_div}
 use Rattle.std.specs.Int.{int_signum}
-use Rattle.std.proofs.Common.{arith}
 use Rattle.hc_rational.specs.Gcd.{gcd}
 use Rattle.hc_rational.specs.LowestTerms.{pass_lt, pass_eq, quotient-pos, quotient-lowest, whole-lowest, some-suc}
 
 infixl 6 ◌+ℚ◌ ◌-ℚ◌
 infixl 7 ◌*ℚ◌ ◌/ℚ◌
-
 -- the number num / den
 pub record Rational : Type 0 where
   pub num : ℤ
