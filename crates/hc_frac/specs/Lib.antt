@@ -1,0 +1,3 @@
+pub mod Parts
+pub mod Word
+pub use Rattle.hc_rational.specs.Words

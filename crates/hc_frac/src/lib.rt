@@ -1,0 +1,12 @@
+//! Exact fractions with their text, decimal numbers as they are written, names and places.
+#![tactic(auto)]
+
+mod decimal;
+mod frac;
+mod name;
+mod place;
+
+pub use decimal::Decimal;
+pub use frac::Frac;
+pub use name::Name;
+pub use place::Place;

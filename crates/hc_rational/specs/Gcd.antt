@@ -1,0 +1,13 @@
+-- The greatest common divisor, as Euclid finds it.
+use Rattle.std.specs.Prelude.{ℕ, zero, suc, ◌%◌}
+
+-- the same, in at most as many steps as the first number says
+unfoldable pub gcd_within : ℕ → ℕ → ℕ → ℕ
+gcd_within zero a b = a
+gcd_within (suc steps) a zero = a
+gcd_within (suc steps) a (suc b) = gcd_within steps (suc b) (a % suc b)
+
+-- the greatest common divisor of a and b; of 0 and b it is b
+unfoldable pub gcd : ℕ → ℕ → ℕ
+unfolding gcd_within
+gcd a b = gcd_within (suc b) a b
