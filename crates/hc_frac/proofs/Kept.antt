@@ -1,6 +1,6 @@
 -- What the two kept numbers tell of the fraction that is seen.
 use Rattle.std.proofs.Common.{◌≡◌, ℕ, ◌<◌, ◌^◌, ℤ, pos, w64, to_z, of_z, sym, ap, ap₂, ◌∙◌, arith}
-use Rattle.std.specs.Prelude.{unsigned_abs, ◌&&◌}
+use Rattle.std.specs.Prelude.{Option, Some, None, SomeIff, unsigned_abs, ◌&&◌}
 use Rattle.std.proofs.lemmas.Int.{to_z-of_z, fits_signed_from_abs, ints}
 use borrow.Author.Tests.{lt-ltb}
 use Rattle.hc_rational.specs.Words.{Rational, IsFrac}
@@ -26,3 +26,8 @@ read_num n h = to_z-of_z w64 n (fits_signed_from_abs w64 n h)
 
 pub read_den : (d : ℕ) → d < 2 ^ 63 → to_z w64 d ≡ pos d
 read_den d h = omega (arith, ints)
+
+-- an answer under one condition is an answer under that and a second that holds
+pub also : {A : Type 0} (P Q : Type 0) (r : Option A) (v : A) → Q → SomeIff r P v → SomeIff r (Q × P) v
+also P Q None v q never = λ both. never both.1
+also P Q (Some x) v q some = ((q, some.0), some.1)

@@ -1,2 +1,4 @@
 pub mod Kept
 pub mod Words
+pub mod Reduced
+pub mod Wide

@@ -3,6 +3,7 @@
 
 mod decimal;
 mod frac;
+mod lowest;
 mod name;
 mod place;
 
