@@ -1,0 +1,17 @@
+pub mod Value
+pub mod Motion
+pub mod EndMoment
+pub mod Profile
+pub mod Rules
+pub mod Process
+pub mod Silent
+pub mod Offers
+pub mod Communication
+pub mod Posts
+pub mod Step
+pub mod Stop
+pub mod Canonical
+pub mod Event
+pub mod TraceText
+pub mod Laws
+pub mod Given
