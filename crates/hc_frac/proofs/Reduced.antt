@@ -1,18 +1,16 @@
 -- A quotient in lowest terms, from any greatest common divisor of its parts.
-use Rattle.std.proofs.Common.{to_z, of_z, ◌≡◌, ℕ, ◌<◌, ◌^◌, ◌/◌, ℤ, pos, negsuc, neg_ℤ, ◌≤ℤ◌, ◌<ℤ◌, refl, ap, ap₂, ◌∙◌, arith}
-use Rattle.std.specs.Prelude.{unsigned_abs, int_div, nat_lt, FitsSigned}
+use Rattle.std.proofs.Common.{to_z, of_z, ◌≡◌, ℕ, ◌<◌, ◌/◌, ℤ, pos, negsuc, neg_ℤ, ◌≤ℤ◌, ◌<ℤ◌, refl, ap, ap₂, ◌∙◌, arith}
+use Rattle.std.specs.Prelude.{unsigned_abs, int_div, FitsSigned}
 use Rattle.std.specs.Int.{IsGcd, w128}
-use Rattle.std.proofs.lemmas.Bool.{and_parts}
 use Rattle.std.proofs.lemmas.Int.{ints, to_z-of_z}
 use Rattle.std.proofs.lemmas.Nat.Gcd.{same_from_IsGcd}
-use Rattle.std.proofs.Math.Nat.{pos_of_dvd_of_pos, div-le_self}
-use borrow.Author.Tests.{ltb-true}
+use Rattle.std.proofs.Math.Nat.{pos_of_dvd_of_pos}
 use Rattle.hc_rational.specs.Words.{Rational, quotient, gcd, IsFrac}
 use Rattle.hc_rational.specs.LowestTerms.{gcd-is, abs-div}
 use Rattle.hc_rational.specs.Code.{den-pos, gcd-one, num-quotient_is, den-quotient_is, quotient-own}
 use Rattle.hc_frac.specs.declared.frac.Frac.TheInside.{Inside}
+use Rattle.hc_rational.proofs.FitsLaws.{den_fits, num_fits}
 use Rattle.hc_frac.specs.Parts.{shown, AreLowest}
-use Rattle.hc_frac.proofs.Kept.{is_frac}
 
 pub divisor-pos : (a d g : ℕ) → IsGcd a d g → 0 < d → 0 < g
 divisor-pos a d g h p = pos_of_dvd_of_pos h.1 p
@@ -38,12 +36,6 @@ pub from_zero : (n : ℤ) (g : ℕ) → pos 0 ≤ℤ n → pos (unsigned_abs n /
 from_zero (pos a) g h = refl
 from_zero (negsuc a) g h = absurd (omega (arith, ints))
 
-pub num_fits : (q : Rational) → IsFrac q → unsigned_abs q.num < 2 ^ 63
-num_fits q h = ltb-true _ _ (and_parts _ (nat_lt q.den (2 ^ 63)) h).0
-
-pub den_fits : (q : Rational) → IsFrac q → q.den < 2 ^ 63
-den_fits q h = ltb-true _ _ (and_parts (nat_lt (unsigned_abs q.num) (2 ^ 63)) _ h).1
-
 -- numbers that are the parts of a rational that fits may be kept, and are seen as that rational
 pub lowest_from : (q : Rational) (f : Inside) → f.num ≡ q.num → f.den ≡ q.den → IsFrac q → AreLowest f
 lowest_from q f n d h = record {
@@ -59,11 +51,3 @@ shown_from q f n d = ap₂ quotient n d ∙ quotient-own q
 -- the magnitude of a number of 128 bits that is read again
 pub magnitude_of : (n : ℤ) (m : ℕ) → FitsSigned w128 n → m ≡ unsigned_abs (to_z w128 (of_z w128 n)) → m ≡ unsigned_abs n
 magnitude_of n m f e = e ∙ ap unsigned_abs (to_z-of_z w128 n f)
-
--- a quotient of numbers that fit fits
-pub quotient_fits : (z : ℤ) (d : ℕ) → 0 < d → unsigned_abs z < 2 ^ 63 → d < 2 ^ 63 → IsFrac (quotient z d)
-quotient_fits z d p top bottom =
-    let num : unsigned_abs (quotient z d).num ≡ unsigned_abs z / gcd (unsigned_abs z) d = magnitude_is z d _ (gcd-is (unsigned_abs z) d) p in
-    is_frac (quotient z d)
-    (omega (arith, num, div-le_self (unsigned_abs z) (gcd (unsigned_abs z) d)))
-    (omega (arith, den-quotient_is z d p, div-le_self d (gcd (unsigned_abs z) d)))

@@ -6,8 +6,8 @@ use Rattle.std.proofs.lemmas.Int.{ints, to_z-of_z, unsigned_abs-mul, fits_signed
 use Rattle.std.proofs.lemmas.Nat.{mul-lt, mul-le}
 use Rattle.hc_rational.specs.Words.{Rational}
 use Rattle.hc_rational.specs.Code.{den-pos}
+use Rattle.hc_rational.proofs.FitsLaws.{den_fits, num_fits}
 use Rattle.hc_frac.specs.PartsOf.{ArePartsOf}
-use Rattle.hc_frac.proofs.Reduced.{num_fits, den_fits}
 
 -- a number that goes to 128 bits and is read again
 abbrev pub read : ℤ → ℤ

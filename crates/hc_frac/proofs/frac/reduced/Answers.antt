@@ -3,9 +3,9 @@ use Rattle.std.specs.Prelude.{unsigned_abs}
 use Rattle.std.specs.Int.{IsGcd}
 use Rattle.std.proofs.lemmas.Int.{ints}
 use Rattle.hc_rational.specs.Words.{quotient, IsFrac}
-use Rattle.hc_frac.proofs.Kept.{is_frac}
-use Rattle.hc_frac.proofs.Reduced.{divisor-pos, top_is, bottom_is, magnitude_is, below_zero, from_zero, num_fits, den_fits, lowest_from, shown_from, magnitude_of}
+use Rattle.hc_frac.proofs.Reduced.{divisor-pos, top_is, bottom_is, magnitude_is, below_zero, from_zero, lowest_from, shown_from, magnitude_of}
 use Rattle.hc_frac.proofs.frac.reduced.Goals as goal
+use Rattle.hc_rational.proofs.FitsLaws.{den_fits, is_frac, num_fits}
 use Rattle.hc_frac.proofs.frac.reduced.Goals.{then-n-lt0, else-n-lt0, then-top-ge-LIMIT-via-then-top-ge-LIMIT, then-top-ge-LIMIT-via-else-top-ge-LIMIT+then-bottom-ge-LIMIT}
 
 pub nonzero_div-top : goal.nonzero_div-top

@@ -4,8 +4,8 @@ use Rattle.std.specs.Int.{w64}
 use Rattle.std.proofs.Common.{rules}
 use Rattle.std.proofs.lemmas.Int.{ints}
 use Rattle.std.proofs.Math.Nat.{pow-le-pow_right, one-le-pow}
-use Rattle.hc_frac.proofs.Reduced.{quotient_fits}
 use Rattle.hc_frac.proofs.Wide.{read}
+use Rattle.hc_rational.proofs.FitsLaws.{quotient_fits}
 use Rattle.hc_frac.proofs.decimal.Decimal.value.Goals as goal
 
 pub reduced-requires : goal.reduced-requires
