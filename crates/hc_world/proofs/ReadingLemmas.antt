@@ -1,6 +1,6 @@
 -- Reads in a row, and what the bytes that came say of the bytes that were told.
-use Rattle.std.proofs.Common.{ℕ, ◌-◌, ◌<◌, ◌≤◌, List, ◌++◌, length, take, Option, None, Some, ap, ◌∙◌, length-append, arith}
-use Rattle.std.proofs.lemmas.List.{append-nil, length-take-le}
+use Rattle.std.proofs.Common.{◌≡◌, ℕ, ◌+◌, ◌-◌, min, drop, [], sym, ◌<◌, ◌≤◌, List, ◌++◌, length, take, Option, None, Some, ap, ◌∙◌, length-append, arith}
+use Rattle.std.proofs.lemmas.List.{append-nil, drop_all, drop-drop, length-take-le, take-append-drop, take_at, take_rest}
 use Rattle.std.proofs.KnownBytes.{Consumes-trans}
 use Rattle.std.specs.Io.KnownBytes.{Consumes}
 use Rattle.hc_world.specs.Reading.{IsAll, ReadsAll, ReadsPast}
@@ -29,3 +29,21 @@ past_told None b most reads = (reads.bytes, tt, reads.past)
 past_told (Some told) None most reads = absurd reads.came
 past_told (Some told) (Some rest) most reads =
     (reads.bytes ++ rest, reads.came, omega (arith, reads.past, length-append reads.bytes rest))
+
+-- a read copies the next n of the bytes that stand behind the first `at`, none only at the end
+pub gives_next : (bytes buffer copied : List ℕ) (at most n : ℕ)
+    → copied ≡ take n (take (length bytes - at) (drop at bytes))
+    → n ≡ min most (length (take (length bytes - at) (drop at bytes)))
+    → 0 < most
+    → (drop at bytes ≡ take n (copied ++ drop n buffer) ++ drop (at + n) bytes)
+    × (n ≡ 0 → drop (at + n) bytes ≡ [])
+gives_next bytes buffer copied at most n is_copied is_least some =
+    let rest = drop at bytes in
+    let copy : copied ≡ take n rest = rw take_rest at is_copied in
+    let least : n ≡ min most (length rest) = rw take_rest at is_least in
+    let front : take n (take n rest ++ drop n buffer) ≡ take n rest =
+    take_at (take n rest) (drop n buffer) n (length-take-le n rest (omega arith)) in
+    let behind : drop n rest ≡ drop (at + n) bytes = drop-drop n at bytes in (
+      rw (copy, front, ← behind) (sym (take-append-drop n rest)),
+      λ none. rw (← behind) (drop_all n rest (omega arith)),
+    )

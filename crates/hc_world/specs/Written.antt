@@ -27,7 +27,10 @@ pub record AddsPart (old new : Option Written) (bytes : List ℕ) : Type 0 where
 
 -- `write(piece)` appended the n bytes that it took at `Ok(n)`, at least one, and nothing at `Err`
 abbrev pub WriteAdds : {E : Type 0} → Option Written → Option Written → Result ℕ E → List ℕ → Type 0
-WriteAdds old new result piece = MatchResult result (λ n. (0 < n) × (n ≤ length piece) × Adds old new (take n piece)) (λ _. Adds old new [])
+WriteAdds old new result piece =
+    MatchResult result
+    (λ n. (0 < n) × (n ≤ length piece) × Adds old new (take n piece))
+    (λ _. Adds old new [])
 
 -- `flush()` flushed all bytes at `Ok`, and left all as it was at `Err`
 abbrev pub FlushKeeps : {T E : Type 0} → Option Written → Option Written → Result T E → Type 0

@@ -2,9 +2,16 @@
 #![tactic(auto)]
 
 mod faults;
+mod mem_sink;
+mod mem_source;
+mod planned_calls;
 mod sinks;
 mod sources;
+mod std_streams;
 
 pub use faults::Failed;
+pub use mem_sink::MemSink;
+pub use mem_source::MemSource;
 pub use sinks::{Sink, write_all};
 pub use sources::{ReadStop, Source, read_all};
+pub use std_streams::{StdErr, StdOut, StdSource};

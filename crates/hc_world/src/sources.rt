@@ -60,16 +60,22 @@ impl From<AllocError> for ReadStop {
     }
 }
 
-/// Reads all bytes to the end, at most `most`, by at most `most + 2` reads.
+/// Reads all bytes to the end, where there are at most `most`, by at most `most + 2` reads.
+/// Where memory runs out, some bytes were read and are lost.
 pub fn read_all<S: Source>(alloc: Global, source: &mut S, most: usize) -> Result<Vec<u8>, ReadStop>
-    ensures all { IfOk result (λ bytes. ReadsAll (S.left source.old) (S.left source.new) bytes.items) }
+    ensures all { IfOk result (λ bytes.
+        ReadsAll (S.left source.old) (S.left source.new) bytes.items) }
     ensures fits { IfOk result (λ bytes. vec_len bytes ≤ most) }
-    ensures long { IsErrOf result ReadStop.TooLong → ReadsPast (S.left source.old) (S.left source.new) most }
+    ensures long { IsErrOf result ReadStop.TooLong →
+        ReadsPast (S.left source.old) (S.left source.new) most }
 
-    // A fault that comes after more than `most` bytes is not answered: `TooLong` is.
-    ensures failed { IsErrOf result ReadStop.Failed → Rose (S.faults source.old) (S.faults source.new) }
-    ensures before_fault { IsErrOf result ReadStop.Failed → ReadsWithin (S.left source.old) (S.left source.new) most }
-    ensures kept { ¬ IsErrOf result ReadStop.Failed → S.faults source.new ≡ S.faults source.old }
+    // Once more than `most` bytes came, no later fault is answered.
+    ensures failed { IsErrOf result ReadStop.Failed →
+        Rose (S.faults source.old) (S.faults source.new) }
+    ensures before_fault { IsErrOf result ReadStop.Failed →
+        ReadsWithin (S.left source.old) (S.left source.new) most }
+    ensures kept { ¬ IsErrOf result ReadStop.Failed →
+        S.faults source.new ≡ S.faults source.old }
     ensures reads { S.calls source.new ≤ S.calls source.old + (most + 2) }
 {
     let mut bytes = Vec::new(alloc);
