@@ -6,9 +6,12 @@ use Rattle.hc_term.specs.declared.stmt.Io.TheVariants.{Send, Receive}
 use Rattle.hc_term.specs.declared.stmt.Stmt.{Stmt, out-Stmt}
 use Rattle.hc_term.specs.declared.stmt.Stmt.TheOpen.{Stmt-F}
 use Rattle.hc_term.specs.declared.stmt.Branch.{Branch, out-Branch}
+use Rattle.hc_term.specs.declared.model.Mark.{Mark}
+use Rattle.hc_term.specs.declared.model.ProcessState.{ProcessState}
+use Rattle.hc_term.specs.declared.model.Mark.TheVariants.{Going, Arrived}
 use Rattle.hc_term.specs.Value.{Store}
 use Rattle.hc_term.specs.Motion.{rates_in, after}
-use Rattle.hc_term.specs.Process.{Mark, Going, Arrived, Proc, Layer}
+use Rattle.hc_term.specs.Process.{Layer}
 
 -- ---- sending
 
@@ -31,7 +34,7 @@ sent_at c [] = []
 sent_at c (head ∷ rest) = sent_here c (out-Stmt head) ++ rest
 
 -- the process after sending on channel c
-abbrev pub sent : ℕ → Proc → Proc
+abbrev pub sent : ℕ → ProcessState → ProcessState
 sent c p = record p { todo = sent_at c p.todo; mark = Going }
 
 -- ---- receiving
@@ -55,15 +58,15 @@ received_here c (Stmt-F.Choice branches) = received_branch c branches
 received_here c (Stmt-F.Evolve rates domain branches) = received_branch c branches
 received_here c _ = (0, [])
 
-abbrev pub received_by : Rational → Proc → Taken → List Stmt → Proc
+abbrev pub received_by : Rational → ProcessState → Taken → List Stmt → ProcessState
 received_by v p taken rest = record p { todo = taken.1 ++ rest; store = slice_set p.store taken.0 v; mark = Going }
 
-abbrev pub received_at : ℕ → Rational → Proc → List Stmt → Proc
+abbrev pub received_at : ℕ → Rational → ProcessState → List Stmt → ProcessState
 received_at c v p [] = p
 received_at c v p (head ∷ rest) = received_by v p (received_here c (out-Stmt head)) rest
 
 -- the process after receiving v on channel c
-abbrev pub received : ℕ → Rational → Proc → Proc
+abbrev pub received : ℕ → Rational → ProcessState → ProcessState
 received c v p = received_at c v p p.todo
 
 -- ---- a delay
@@ -76,12 +79,12 @@ abbrev pub left_after : Rational → Rational → Layer → Rational
 left_after left d (Stmt-F.Wait time) = left -ℚ d
 left_after left d _ = left
 
-abbrev pub moved_at : Rational → Proc → Mark → List Stmt → Proc
+abbrev pub moved_at : Rational → ProcessState → Mark → List Stmt → ProcessState
 moved_at d p Going todo = p
 moved_at d p (Arrived left) [] = p
 moved_at d p (Arrived left) (head ∷ rest) =
     record p { store = moved_store p.store d (out-Stmt head); mark = Arrived (left_after left d (out-Stmt head)) }
 
 -- the process after d time units
-abbrev pub moved : Rational → Proc → Proc
+abbrev pub moved : Rational → ProcessState → ProcessState
 moved d p = moved_at d p p.mark p.todo

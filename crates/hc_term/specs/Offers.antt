@@ -12,9 +12,12 @@ use Rattle.hc_term.specs.declared.post.Phase.TheVariants as phase
 use Rattle.hc_term.specs.declared.post.Moving.{Moving}
 use Rattle.hc_term.specs.declared.post.Offer.{Offer}
 use Rattle.hc_term.specs.declared.post.Offer.TheVariants as offer
+use Rattle.hc_term.specs.declared.model.Mark.{Mark}
+use Rattle.hc_term.specs.declared.model.ProcessState.{ProcessState}
+use Rattle.hc_term.specs.declared.model.Mark.TheVariants.{Going, Arrived}
 use Rattle.hc_term.specs.Value.{Store, val}
 use Rattle.hc_term.specs.Motion.{Rates, rates_in, line}
-use Rattle.hc_term.specs.Process.{Mark, Going, Arrived, Proc, Layer, bound, is_due}
+use Rattle.hc_term.specs.Process.{Layer, bound, is_due}
 
 -- the evolving variables of an evolution, each with its value and its rate
 abbrev pub moving_of : Store → List Rate → List Moving
@@ -54,5 +57,5 @@ post_at clock s b (Arrived left) (head ∷ rest) =
     record { phase = phase.Arrived; bound = b; due = due_of clock b; moving = moving_here s (out-Stmt head); offers = offers_here s b (out-Stmt head) }
 
 -- what the others see of a process
-abbrev pub post : Rational → Proc → Post
+abbrev pub post : Rational → ProcessState → Post
 post clock p = post_at clock p.store (bound p) p.mark p.todo

@@ -8,16 +8,10 @@ use Rattle.hc_term.specs.declared.post.Post.{Post}
 use Rattle.hc_term.specs.declared.post.Moving.{Moving}
 use Rattle.hc_term.specs.declared.post.Offer.{Offer}
 use Rattle.hc_term.specs.declared.post.Offer.TheVariants.{Send, Receive}
+use Rattle.hc_term.specs.declared.model.Meeting.{Meeting}
 use Rattle.hc_term.specs.EndMoment.{earlier}
 
 -- ---- meetings
-
--- a communication: the channel, the process that sends, the one that receives, and the value
-pub record Meeting : Type 0 where
-  pub channel : ℕ
-  pub sender : ℕ
-  pub receiver : ℕ
-  pub value : Rational
 
 abbrev pub first_of : {A : Type 0} → Option A → Option A → Option A
 first_of (Some a) other = Some a

@@ -4,22 +4,12 @@ use Rattle.hc_rational.specs.Words.{Rational, zero_ℚ, greater, is_zero}
 use Rattle.hc_term.specs.declared.stmt.Stmt.{Stmt, out-Stmt}
 use Rattle.hc_term.specs.declared.stmt.Stmt.TheOpen.{Stmt-F}
 use Rattle.hc_term.specs.declared.stmt.Branch.{Branch}
+use Rattle.hc_term.specs.declared.model.Mark.{Mark}
+use Rattle.hc_term.specs.declared.model.Mark.TheVariants.{Going, Arrived}
+use Rattle.hc_term.specs.declared.model.ProcessState.{ProcessState}
 use Rattle.hc_term.specs.Value.{Store}
 use Rattle.hc_term.specs.Motion.{rates_in}
 use Rattle.hc_term.specs.EndMoment.{end_moment}
-
--- whether a process has arrived at the head of its statements
-pub data Mark : Type 0 where
-  Going : Mark
-  -- what is left to wait, which is 0 but at a wait
-  Arrived : (left : Rational) → Mark
-
--- the configuration of a process: the statements still to do, the store, the number of choices taken, the mark
-pub record Proc : Type 0 where
-  pub todo : List Stmt
-  pub store : Store
-  pub choices : ℕ
-  pub mark : Mark
 
 -- a statement, opened
 abbrev pub Layer : Type 0
@@ -39,7 +29,7 @@ bound_at s (Arrived left) [] = None
 bound_at s (Arrived left) (head ∷ rest) = bound_here s left (out-Stmt head)
 
 -- how long a process may stay where it is, or none where time doesn't move it on
-abbrev pub bound : Proc → Option Rational
+abbrev pub bound : ProcessState → Option Rational
 bound c = bound_at c.store c.mark c.todo
 
 -- whether a bound has run out
@@ -58,5 +48,5 @@ wants_at Going b (head ∷ rest) = true
 wants_at (Arrived left) b (head ∷ rest) = is_due b
 
 -- whether it wants a silent step, which may be one whose working values don't fit
-abbrev pub wants : Proc → Bool
+abbrev pub wants : ProcessState → Bool
 wants c = wants_at c.mark (bound c) c.todo

@@ -9,10 +9,13 @@ use Rattle.hc_term.specs.declared.stmt.Rate.{Rate}
 use Rattle.hc_term.specs.declared.stmt.Stmt.{Stmt, out-Stmt}
 use Rattle.hc_term.specs.declared.stmt.Stmt.TheOpen.{Stmt-F}
 use Rattle.hc_term.specs.declared.stmt.Branch.{Branch, out-Branch}
+use Rattle.hc_term.specs.declared.model.Mark.{Mark}
+use Rattle.hc_term.specs.declared.model.ProcessState.{ProcessState}
+use Rattle.hc_term.specs.declared.model.Mark.TheVariants.{Going, Arrived}
 use Rattle.hc_term.specs.Value.{Store, val, holds, is_fitting, is_fitting_test}
 use Rattle.hc_term.specs.Motion.{Rates, rates_in, line}
 use Rattle.hc_term.specs.EndMoment.{end_moment, domain_fits}
-use Rattle.hc_term.specs.Process.{Mark, Going, Arrived, Proc, Layer, bound, is_due}
+use Rattle.hc_term.specs.Process.{Layer, bound, is_due}
 
 -- ---- working values: each test says that those of one part fit
 
@@ -52,15 +55,15 @@ evolution_fits clock s rates domain branches =
 pub data Outcome : Type 0 where
   Idle : Outcome
   Unfit : Outcome
-  Did : (logged : Option Rational) (next : Proc) → Outcome
+  Did : (logged : Option Rational) (next : ProcessState) → Outcome
 
 abbrev pub if_fit : Bool → Outcome → Outcome
 if_fit fitting o = if fitting then o else Unfit
 
-abbrev pub goes_on : Proc → List Stmt → Outcome
+abbrev pub goes_on : ProcessState → List Stmt → Outcome
 goes_on c todo = Did None (record c { todo = todo; mark = Going })
 
-abbrev pub arrives : Proc → Rational → Outcome
+abbrev pub arrives : ProcessState → Rational → Outcome
 arrives c left = Did None (record c { mark = Arrived left })
 
 -- the left side of a choice is taken where bit (k + 7p) mod 64 of the seed is 0
@@ -68,7 +71,7 @@ abbrev pub picks_left : ℕ → ℕ → ℕ → Bool
 picks_left seed p k = (seed / 2 ^ ((k + 7 * p) % 64)) % 2 == 0
 
 -- a step of a going process number p; head is the statement that the layer opens
-abbrev pub going_step : ℕ → ℕ → Rational → Proc → Stmt → List Stmt → Layer → Outcome
+abbrev pub going_step : ℕ → ℕ → Rational → ProcessState → Stmt → List Stmt → Layer → Outcome
 going_step seed p clock c head rest Stmt-F.Skip = goes_on c rest
 going_step seed p clock c head rest (Stmt-F.Assign x e) =
     if_fit (is_fitting c.store e) (Did None (record c { todo = rest; store = slice_set c.store x (val c.store e) }))
@@ -88,11 +91,11 @@ going_step seed p clock c head rest (Stmt-F.Choice branches) = if_fit (branches_
 going_step seed p clock c head rest (Stmt-F.Evolve rates domain branches) =
     if_fit (evolution_fits clock c.store rates domain branches) (arrives c zero_ℚ)
 
-abbrev pub silent_at : ℕ → ℕ → Rational → Proc → Mark → List Stmt → Outcome
+abbrev pub silent_at : ℕ → ℕ → Rational → ProcessState → Mark → List Stmt → Outcome
 silent_at seed p clock c mark [] = Idle
 silent_at seed p clock c Going (head ∷ rest) = going_step seed p clock c head rest (out-Stmt head)
 silent_at seed p clock c (Arrived left) (head ∷ rest) = if is_due (bound c) then goes_on c rest else Idle
 
 -- the silent step of process number p
-abbrev pub silent : ℕ → ℕ → Rational → Proc → Outcome
+abbrev pub silent : ℕ → ℕ → Rational → ProcessState → Outcome
 silent seed p clock c = silent_at seed p clock c c.mark c.todo

@@ -4,6 +4,7 @@
 mod expr;
 mod form;
 mod laws;
+mod model;
 mod post;
 mod profile;
 mod rules;
@@ -16,6 +17,7 @@ mod task;
 pub use expr::{Comparison, Cond, Expr, Op};
 pub use form::{Form, form_of, is_affine};
 pub use laws::runs;
+pub use model::{Configuration, Mark, Meeting, ProcessState};
 pub use post::{Moving, Offer, Phase, Post};
 pub use run::{Item, Step, Stop, StretchEnd, Unfit};
 pub use stmt::{Branch, Io, Rate, Stmt};
