@@ -15,3 +15,4 @@ pub mod Event
 pub mod TraceText
 pub mod Laws
 pub mod Given
+pub mod Plain
