@@ -77,7 +77,8 @@ impl<W: Write> Sink for StdOut<W> {
     fn flush(&mut self) -> Result<(), Failed>
         ensures bytes { FlushKeeps None None result }
         ensures cause { HasCause (out_faults self.old) (out_faults self.new) result }
-        ensures below { Keeps (out_contents W.contents self.old) (out_contents W.contents self.new) }
+        ensures below { Keeps
+            (out_contents W.contents self.old) (out_contents W.contents self.new) }
     {
         flush_counted(&mut self.writer, &mut self.faults)
     }
@@ -116,7 +117,8 @@ impl<W: Write> Sink for StdErr<W> {
     fn flush(&mut self) -> Result<(), Failed>
         ensures bytes { FlushKeeps None None result }
         ensures cause { HasCause (err_faults self.old) (err_faults self.new) result }
-        ensures below { Keeps (err_contents W.contents self.old) (err_contents W.contents self.new) }
+        ensures below { Keeps
+            (err_contents W.contents self.old) (err_contents W.contents self.new) }
     {
         flush_counted(&mut self.writer, &mut self.faults)
     }
