@@ -4,7 +4,7 @@ ghost use Rattle.std.specs.Prelude.{◌≡◌, ◌≢◌, ◌<◌, pos, SomeIff}
 ghost use Rattle.std.specs.Int.{int_signum};
 ghost use Rattle.hc_frac.specs.Text.{text_of};
 ghost use Rattle.hc_frac.specs.PartsOf.{ArePartsOf};
-ghost use Rattle.hc_rational.specs.Words.{Rational, zero_ℚ, quotient, ratio, IsFrac, ◌+ℚ◌, ◌-ℚ◌, neg_ℚ, rank, is_zero};
+ghost use Rattle.hc_rational.specs.Words.{Rational, zero_ℚ, quotient, ratio, IsFrac, ◌+ℚ◌, ◌-ℚ◌, ◌*ℚ◌, ◌/ℚ◌, neg_ℚ, rank, is_zero};
 
 use crate::lowest::gcd;
 use arrayvec::ArrayString;
@@ -90,6 +90,25 @@ impl Frac {
         ensures { SomeIff result (IsFrac (self -ℚ other)) (self -ℚ other) }
     {
         self.add(other.neg())
+    }
+
+    /// The product, or `None` where it does not fit.
+    pub fn mul(self, other: Frac) -> Option<Frac>
+        ensures { SomeIff result (IsFrac (self *ℚ other)) (self *ℚ other) }
+    {
+        let (a, b) = self.wide();
+        let (c, d) = other.wide();
+        reduced(a * c, (b * d).unsigned_abs())
+    }
+
+    /// The quotient by a fraction that is not 0, or `None` where it does not fit.
+    pub fn div(self, by: Frac) -> Option<Frac>
+        requires { by.num ≢ pos 0 }
+        ensures { SomeIff result (IsFrac (self /ℚ by)) (self /ℚ by) }
+    {
+        let (a, b) = self.wide();
+        let (c, d) = by.wide();
+        reduced(a * c.signum() * d, (b * c).unsigned_abs())
     }
 
     /// The fraction with the other sign.
