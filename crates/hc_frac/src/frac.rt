@@ -1,12 +1,13 @@
 //! Fractions whose numerator and denominator have at most 63 bits.
 
-ghost use Rattle.std.specs.Prelude.{◌≡◌, ◌≢◌, ◌<◌, pos, SomeIff};
+ghost use Rattle.std.specs.Prelude.{◌≡◌, ◌≢◌, ◌<◌, pos, SomeIff, IfSome};
 ghost use Rattle.std.specs.Int.{int_signum};
 ghost use Rattle.hc_frac.specs.Text.{text_of};
 ghost use Rattle.hc_frac.specs.PartsOf.{ArePartsOf};
 ghost use Rattle.hc_rational.specs.Words.{Rational, zero_ℚ, quotient, ratio, IsFrac, ◌+ℚ◌, ◌-ℚ◌, ◌*ℚ◌, ◌/ℚ◌, neg_ℚ, rank, is_zero};
 
 use crate::lowest::gcd;
+use crate::reading::candidate;
 use arrayvec::ArrayString;
 use itoa::Buffer;
 use std::cmp::Ordering;
@@ -157,6 +158,19 @@ impl Frac {
             text.push_str(buffer.format(den));
         }
         text
+    }
+
+    /// The fraction whose text is exactly `bytes`, or `None` where there is none.
+    pub fn read(bytes: &[u8]) -> Option<Self>
+        ensures every { (q : Rational) → IsFrac q → text_of q ≡ bytes.now → result ≡ Some q }
+        ensures only { IfSome result (λ q. text_of q ≡ bytes.now) }
+    {
+        let frac = candidate(bytes)?;
+        if frac.text().as_str().as_bytes() == bytes {
+            Some(frac)
+        } else {
+            None
+        }
     }
 
     /// The numerator and the denominator, with room for a product.
