@@ -2,3 +2,4 @@ pub mod Kept
 pub mod Words
 pub mod Reduced
 pub mod Wide
+pub mod TextLemmas

@@ -1,12 +1,13 @@
 //! Fractions whose numerator and denominator have at most 63 bits.
 
-ghost use Rattle.std.specs.Prelude.{◌≡◌, ◌≢◌, ◌<◌, pos, SomeIff};
+ghost use Rattle.std.specs.Prelude.{◌≡◌, ◌≢◌, ◌<◌, pos, SomeIff, IfSome};
 ghost use Rattle.std.specs.Int.{int_signum};
 ghost use Rattle.hc_frac.specs.Text.{text_of};
 ghost use Rattle.hc_frac.specs.PartsOf.{ArePartsOf};
-ghost use Rattle.hc_rational.specs.Words.{Rational, zero_ℚ, quotient, ratio, IsFrac, ◌+ℚ◌, ◌-ℚ◌, neg_ℚ, rank, is_zero};
+ghost use Rattle.hc_rational.specs.Words.{Rational, zero_ℚ, quotient, ratio, IsFrac, ◌+ℚ◌, ◌-ℚ◌, ◌*ℚ◌, ◌/ℚ◌, neg_ℚ, rank, is_zero};
 
 use crate::lowest::gcd;
+use crate::reading::candidate;
 use arrayvec::ArrayString;
 use itoa::Buffer;
 use std::cmp::Ordering;
@@ -92,6 +93,25 @@ impl Frac {
         self.add(other.neg())
     }
 
+    /// The product, or `None` where it does not fit.
+    pub fn mul(self, other: Frac) -> Option<Frac>
+        ensures { SomeIff result (IsFrac (self *ℚ other)) (self *ℚ other) }
+    {
+        let (a, b) = self.wide();
+        let (c, d) = other.wide();
+        reduced(a * c, (b * d).unsigned_abs())
+    }
+
+    /// The quotient by a fraction that is not 0, or `None` where it does not fit.
+    pub fn div(self, by: Frac) -> Option<Frac>
+        requires { by.num ≢ pos 0 }
+        ensures { SomeIff result (IsFrac (self /ℚ by)) (self /ℚ by) }
+    {
+        let (a, b) = self.wide();
+        let (c, d) = by.wide();
+        reduced(a * c.signum() * d, (b * c).unsigned_abs())
+    }
+
     /// The fraction with the other sign.
     pub fn neg(self) -> Frac
         ensures { result ≡ neg_ℚ self }
@@ -138,6 +158,19 @@ impl Frac {
             text.push_str(buffer.format(den));
         }
         text
+    }
+
+    /// The fraction whose text is exactly `bytes`, or `None` where there is none.
+    pub fn read(bytes: &[u8]) -> Option<Self>
+        ensures every { (q : Rational) → IsFrac q → text_of q ≡ bytes.now → result ≡ Some q }
+        ensures only { IfSome result (λ q. text_of q ≡ bytes.now) }
+    {
+        let frac = candidate(bytes)?;
+        if frac.text().as_str().as_bytes() == bytes {
+            Some(frac)
+        } else {
+            None
+        }
     }
 
     /// The numerator and the denominator, with room for a product.

@@ -6,6 +6,7 @@ mod frac;
 mod lowest;
 mod name;
 mod place;
+mod reading;
 
 pub use decimal::Decimal;
 pub use frac::Frac;

@@ -6,7 +6,7 @@ use Rattle.std.proofs.Common.{refl, sym, ap, ◌∙◌, arith}
 use Rattle.std.proofs.lemmas.Int.{ints}
 use Rattle.std.proofs.Math.Nat.{mul-pos}
 use Rattle.hc_rational.specs.Rational.{Rational, quotient, ratio, zero_ℚ, one_ℚ, ◌+ℚ◌, ◌-ℚ◌, neg_ℚ, ◌*ℚ◌, ◌/ℚ◌}
-use Rattle.hc_rational.specs.Code.{den-pos}
+use Rattle.hc_rational.specs.Code.{den-pos, quotient-own}
 use Rattle.hc_rational.proofs.Quotients.{IsQuotient, own, rewritten, same_quotients, quotient-is, zero-is, one-is, add-is, mul-is, neg-is, sub-is}
 
 pub +ℚ_assoc : (q r s : Rational) → (q +ℚ r) +ℚ s ≡ q +ℚ (r +ℚ s)
@@ -147,3 +147,11 @@ pub *ℚ-/ℚ : (q r : Rational) → r ≢ zero_ℚ → q *ℚ r /ℚ r ≡ q
 
 pub zero-/ℚ : (q : Rational) → q ≢ zero_ℚ → zero_ℚ /ℚ q ≡ zero_ℚ
 zero-/ℚ q some = *ℚ_cancel (zero_ℚ /ℚ q) zero_ℚ q some (/ℚ-*ℚ zero_ℚ q some ∙ sym (zero-*ℚ q))
+
+-- a rational is the ratio of its own parts
+pub ratio-own : (q : Rational) → ratio q.num (pos q.den) ≡ q
+unfolding ratio
+ratio-own q =
+    let sign : int_signum (pos q.den) ≡ pos 1 = ap pos (omega (arith, den-pos q)) in
+    let top : q.num *ℤ int_signum (pos q.den) ≡ q.num = rw sign (omega (arith, ints)) in
+    ap (λ n. quotient n q.den) top ∙ quotient-own q
