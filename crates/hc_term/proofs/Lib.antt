@@ -1,3 +1,6 @@
 pub mod Sizes
 pub mod Ruled
 pub mod Used
+pub mod Wanting
+pub mod Ready
+pub mod Turns

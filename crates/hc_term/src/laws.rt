@@ -1,6 +1,9 @@
 //! Laws of the definitions.
 
-ghost use Rattle.hc_term.specs.Laws.{CanonicalIsBehaviour, GoesOnOrStops, SilentStepsCommute, SilentAndCommCommute, DelaysKeepQuiet, EventIsRun};
+ghost use Rattle.hc_term.specs.Laws.{CanonicalIsBehaviour, GoesOnOrStops};
 
 /// What holds of every task. There is nothing to run: the clauses are the laws.
-pub fn runs() {}
+pub fn runs()
+    ensures canonical { CanonicalIsBehaviour }
+    ensures progress { GoesOnOrStops }
+{}

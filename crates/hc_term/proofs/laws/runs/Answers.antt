@@ -1,0 +1,8 @@
+use Rattle.hc_term.proofs.Turns.{canonical_is_behaviour, goes_on_or_stops}
+use Rattle.hc_term.proofs.laws.runs.Goals as goal
+
+pub returns-clause-canonical : goal.returns-clause-canonical
+returns-clause-canonical c = canonical_is_behaviour
+
+pub returns-clause-progress : goal.returns-clause-progress
+returns-clause-progress c = goes_on_or_stops
