@@ -4,3 +4,5 @@ pub mod Used
 pub mod Wanting
 pub mod Ready
 pub mod Turns
+pub mod Places
+pub mod Commute

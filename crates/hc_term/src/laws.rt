@@ -1,9 +1,10 @@
 //! Laws of the definitions.
 
-ghost use Rattle.hc_term.specs.Laws.{CanonicalIsBehaviour, GoesOnOrStops};
+ghost use Rattle.hc_term.specs.Laws.{CanonicalIsBehaviour, GoesOnOrStops, SilentStepsCommute};
 
 /// What holds of every task. There is nothing to run: the clauses are the laws.
 pub fn runs()
     ensures canonical { CanonicalIsBehaviour }
     ensures progress { GoesOnOrStops }
+    ensures silent_commute { SilentStepsCommute }
 {}

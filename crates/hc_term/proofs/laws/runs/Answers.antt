@@ -1,4 +1,5 @@
 use Rattle.hc_term.proofs.Turns.{canonical_is_behaviour, goes_on_or_stops}
+use Rattle.hc_term.proofs.Commute.{silent_steps_commute}
 use Rattle.hc_term.proofs.laws.runs.Goals as goal
 
 pub returns-clause-canonical : goal.returns-clause-canonical
@@ -6,3 +7,6 @@ returns-clause-canonical c = canonical_is_behaviour
 
 pub returns-clause-progress : goal.returns-clause-progress
 returns-clause-progress c = goes_on_or_stops
+
+pub returns-clause-silent_commute : goal.returns-clause-silent_commute
+returns-clause-silent_commute c = silent_steps_commute
