@@ -5,4 +5,5 @@ pub mod Wanting
 pub mod Ready
 pub mod Turns
 pub mod Places
+pub mod Offering
 pub mod Commute

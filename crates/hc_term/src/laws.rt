@@ -1,10 +1,11 @@
 //! Laws of the definitions.
 
-ghost use Rattle.hc_term.specs.Laws.{CanonicalIsBehaviour, GoesOnOrStops, SilentStepsCommute};
+ghost use Rattle.hc_term.specs.Laws.{CanonicalIsBehaviour, GoesOnOrStops, SilentStepsCommute, SilentAndCommCommute};
 
 /// What holds of every task. There is nothing to run: the clauses are the laws.
 pub fn runs()
     ensures canonical { CanonicalIsBehaviour }
     ensures progress { GoesOnOrStops }
     ensures silent_commute { SilentStepsCommute }
+    ensures meetings_commute { SilentAndCommCommute }
 {}

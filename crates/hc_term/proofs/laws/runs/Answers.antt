@@ -1,5 +1,5 @@
 use Rattle.hc_term.proofs.Turns.{canonical_is_behaviour, goes_on_or_stops}
-use Rattle.hc_term.proofs.Commute.{silent_steps_commute}
+use Rattle.hc_term.proofs.Commute.{silent_steps_commute, silent_and_comm_commute}
 use Rattle.hc_term.proofs.laws.runs.Goals as goal
 
 pub returns-clause-canonical : goal.returns-clause-canonical
@@ -10,3 +10,6 @@ returns-clause-progress c = goes_on_or_stops
 
 pub returns-clause-silent_commute : goal.returns-clause-silent_commute
 returns-clause-silent_commute c = silent_steps_commute
+
+pub returns-clause-meetings_commute : goal.returns-clause-meetings_commute
+returns-clause-meetings_commute c = silent_and_comm_commute
