@@ -7,3 +7,5 @@ pub mod Turns
 pub mod Places
 pub mod Offering
 pub mod Commute
+pub mod Stretches
+pub mod Events

@@ -1,5 +1,5 @@
 -- Changes of different processes in a list of them.
-use Rattle.std.proofs.Common.{◌≡◌, ◌≢◌, refl, ap, ℕ, zero, suc, List, [], ◌∷◌, map, slice_get, slice_set}
+use Rattle.std.proofs.Common.{◌≡◌, ◌≢◌, refl, sym, ap, ℕ, zero, suc, List, [], ◌∷◌, slice_get, slice_set, Some}
 use Rattle.hc_term.specs.declared.model.ProcessState.{ProcessState}
 use Rattle.hc_term.specs.Step.{changed}
 
@@ -38,3 +38,16 @@ module _ (f : ProcessState → ProcessState) where
   changed-set_other (y ∷ xs) zero (suc q) x d = refl
   changed-set_other (y ∷ xs) (suc p) zero x d = refl
   changed-set_other (y ∷ xs) (suc p) (suc q) x d = ap (λ l. y ∷ l) (changed-set_other xs p q x (suc-≢ p q d))
+
+-- ---- one place
+
+module _ {A : Type 0} where
+  pub get-set_same : (xs : List A) (p : ℕ) (old x : A) → slice_get xs p ≡ Some old → slice_get (slice_set xs p x) p ≡ Some x
+  get-set_same [] p old x e = cc
+  get-set_same (y ∷ xs) zero old x e = refl
+  get-set_same (y ∷ xs) (suc p) old x e = get-set_same xs p old x e
+
+  pub set_back : (xs : List A) (p : ℕ) (x : A) → slice_get xs p ≡ Some x → slice_set xs p x ≡ xs
+  set_back [] p x e = refl
+  set_back (y ∷ xs) zero x e = let same : y ≡ x = cc in ap (λ z. z ∷ xs) (sym same)
+  set_back (y ∷ xs) (suc p) x e = ap (λ l. y ∷ l) (set_back xs p x e)

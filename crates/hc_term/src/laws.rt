@@ -1,6 +1,6 @@
 //! Laws of the definitions.
 
-ghost use Rattle.hc_term.specs.Laws.{CanonicalIsBehaviour, GoesOnOrStops, SilentStepsCommute, SilentAndCommCommute};
+ghost use Rattle.hc_term.specs.Laws.{CanonicalIsBehaviour, GoesOnOrStops, SilentStepsCommute, SilentAndCommCommute, EventIsRun};
 
 /// What holds of every task. There is nothing to run: the clauses are the laws.
 pub fn runs()
@@ -8,4 +8,5 @@ pub fn runs()
     ensures progress { GoesOnOrStops }
     ensures silent_commute { SilentStepsCommute }
     ensures meetings_commute { SilentAndCommCommute }
+    ensures events { EventIsRun }
 {}
