@@ -1,5 +1,5 @@
 -- Steps of different processes may be taken in either order.
-use Rattle.std.proofs.Common.{◌≡◌, ◌≢◌, refl, sym, ap, ◌∙◌, subst, ℕ, slice_get, slice_set, Option}
+use Rattle.std.proofs.Common.{◌≡◌, ◌≢◌, refl, sym, ap, ◌∙◌, subst, ℕ, slice_get, Option}
 use Rattle.std.proofs.lemmas.List.{map-set}
 use Rattle.hc_rational.specs.Words.{Rational}
 use Rattle.hc_term.specs.declared.task.Task.{Task}
@@ -34,9 +34,11 @@ pub silent_steps_commute : SilentStepsCommute
 silent_steps_commute t c one two p q logged_p logged_q d h k =
     let x = h.0 in
     let y = k.0 in
-    let back = second_silent t c two q p logged_p y x (λ e. d (sym e)) k.2 h.1 in
-    (replaced (replaced c p x) q y, second_silent t c one p q logged_q x y d h.2 k.1,
-      subst (StepTo t two (Silent p logged_p)) (replaced-swap c p q x y d) back)
+    let back = second_silent t c two q p logged_p y x (λ e. d (sym e)) k.2 h.1 in (
+      replaced (replaced c p x) q y,
+      second_silent t c one p q logged_q x y d h.2 k.1,
+      subst (StepTo t two (Silent p logged_p)) (replaced-swap c p q x y d) back,
+    )
 
 -- ---- a silent step and a communication
 
@@ -78,7 +80,8 @@ silent_and_comm_commute t c one two p channel logged value h k =
     let m = k.0 in
     let both = met m (replaced c p x) in
     let s = apart t c p m.sender logged x h.1 (sender-idle t c m k.4) in
-    let r = apart t c p m.receiver logged x h.1 (receiver-idle t c m k.4) in
-    (both,
+    let r = apart t c p m.receiver logged x h.1 (receiver-idle t c m k.4) in (
+      both,
       subst (λ (i : Configuration). StepTo t i (Comm channel value) both) (sym h.2) (m, k.1, k.2, k.3, meets_still c m p x s r k.4, refl),
-      subst (λ (i : Configuration). StepTo t i (Silent p logged) both) (sym k.5) (x, silent_of-met c m p x s r t ∙ h.1, met-replaced c m p x s r))
+      subst (λ (i : Configuration). StepTo t i (Silent p logged) both) (sym k.5) (x, silent_of-met c m p x s r t ∙ h.1, met-replaced c m p x s r),
+    )

@@ -1,11 +1,10 @@
 -- An event is a piece of a run, and the stop that it sets holds at its end.
-use Rattle.std.proofs.Common.{◌≡◌, refl, sym, ap, subst, ℕ, zero, suc, ◌+◌, ◌-◌, ◌≤◌, ◌<◌, min, List, [], ◌∷◌, ◌++◌, length, slice_get, Option, Some, None, ◌⊎◌, inl, inr, arith, length-append}
+use Rattle.std.proofs.Common.{◌≡◌, refl, sym, ap, subst, ℕ, zero, suc, ◌+◌, ◌-◌, ◌≤◌, ◌<◌, min, List, [], ◌∷◌, ◌++◌, length, Option, Some, None, inl, inr, arith, length-append}
 use Rattle.hc_rational.specs.Words.{Rational}
 use Rattle.hc_term.specs.declared.task.Task.{Task}
 use Rattle.hc_term.specs.declared.run.Step.TheVariants.{Comm}
 use Rattle.hc_term.specs.declared.run.Item.{Item}
 use Rattle.hc_term.specs.declared.run.Stop.{Stop}
-use Rattle.hc_term.specs.declared.run.Stop.TheVariants.{Limit}
 use Rattle.hc_term.specs.declared.run.StretchEnd.{StretchEnd}
 use Rattle.hc_term.specs.declared.run.StretchEnd.TheVariants as ends
 use Rattle.hc_term.specs.declared.model.ProcessState.{ProcessState}
@@ -14,7 +13,6 @@ use Rattle.hc_term.specs.declared.model.Configuration.{Configuration}
 use Rattle.hc_term.specs.Silent.{Unfit}
 use Rattle.hc_term.specs.Posts.{Passing, NoBound, AtHorizon, TooLarge, Took}
 use Rattle.hc_term.specs.Step.{ready, passing, silent_of, replaced, met, delayed, Leads}
-use Rattle.hc_term.specs.Stop.{StopsAt}
 use Rattle.hc_term.specs.Event.{Progress, progress, Event, still, event_after, stop_of_passing, stop_after, last_part_by, meetings_by, meetings, second_part, silent_items, event_by, event_of, EndsWell}
 use Rattle.hc_term.specs.Laws.{EventIsRun}
 use Rattle.hc_term.proofs.Ready.{ready-steps}

@@ -9,3 +9,4 @@ pub mod Offering
 pub mod Commute
 pub mod Stretches
 pub mod Events
+pub mod Quiet

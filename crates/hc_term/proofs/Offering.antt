@@ -1,5 +1,5 @@
 -- A process that offers a communication has no silent step.
-use Rattle.std.proofs.Common.{◌≡◌, refl, sym, ap, ◌∙◌, ℕ, zero, suc, Bool, true, false, if◌then◌else◌, List, [], ◌∷◌, map, slice_get, Option, Some, None}
+use Rattle.std.proofs.Common.{◌≡◌, refl, ap, ℕ, zero, suc, Bool, true, false, if◌then◌else◌, List, [], ◌∷◌, map, slice_get, Some}
 use Rattle.hc_rational.specs.Words.{Rational}
 use Rattle.hc_term.specs.declared.stmt.Stmt.{Stmt, out-Stmt}
 use Rattle.hc_term.specs.declared.stmt.Stmt.TheOpen.{Stmt-F}
@@ -11,9 +11,9 @@ use Rattle.hc_term.specs.declared.model.ProcessState.{ProcessState}
 use Rattle.hc_term.specs.declared.model.Meeting.{Meeting}
 use Rattle.hc_term.specs.declared.model.Configuration.{Configuration}
 use Rattle.hc_term.specs.Value.{Store}
-use Rattle.hc_term.specs.Process.{Layer, bound_here, bound_at, is_due}
-use Rattle.hc_term.specs.Silent.{Outcome, Idle, goes_on, silent}
-use Rattle.hc_term.specs.Offers.{offers_here, post_at, post}
+use Rattle.hc_term.specs.Process.{Layer, bound_here, is_due}
+use Rattle.hc_term.specs.Silent.{Idle, goes_on, silent}
+use Rattle.hc_term.specs.Offers.{offers_here, post}
 use Rattle.hc_term.specs.Posts.{gift, wishes}
 use Rattle.hc_term.specs.Step.{silent_by, silent_of, GivesAt, WishesAt, Meets}
 

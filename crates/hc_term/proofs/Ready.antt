@@ -84,11 +84,13 @@ meeting_by-joins c ps m (Some s) (Some r) e f h =
     let same : made ≡ m = cc in
     let s_at : s.0 - 0 ≡ s.0 = omega arith in
     let r_at : r - 0 ≡ r = omega arith in
-    subst (λ (x : Meeting). (x.channel ≡ c) × Joins ps x) same
-    (refl, record {
-      gives = subst (λ (n : ℕ). GivesAt c s.1 (slice_get ps n)) s_at sends.gives;
-      takes = subst (λ (n : ℕ). WishesAt c (slice_get ps n)) r_at receives.takes;
-    })
+    subst (λ (x : Meeting). (x.channel ≡ c) × Joins ps x) same (
+      refl,
+      record {
+        gives = subst (λ (n : ℕ). GivesAt c s.1 (slice_get ps n)) s_at sends.gives;
+        takes = subst (λ (n : ℕ). WishesAt c (slice_get ps n)) r_at receives.takes;
+      },
+    )
 meeting_by-joins c ps m (Some s) None e f h = cc
 meeting_by-joins c ps m None r e f h = cc
 

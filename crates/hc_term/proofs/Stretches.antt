@@ -1,6 +1,5 @@
 -- A stretch of silent steps of one process is a piece of a run.
-use Rattle.std.proofs.Common.{◌≡◌, refl, sym, ap, ◌∙◌, subst, ℕ, zero, suc, ◌≤◌, Bool, true, false, if◌then◌else◌, length, slice_get, set-set, Option, Some, None, arith}
-use Rattle.hc_rational.specs.Words.{Rational}
+use Rattle.std.proofs.Common.{◌≡◌, refl, ap, ◌∙◌, subst, ℕ, zero, suc, ◌≤◌, Bool, true, false, if◌then◌else◌, length, slice_get, set-set, Some, None, arith}
 use Rattle.hc_term.specs.declared.task.Task.{Task}
 use Rattle.hc_term.specs.declared.run.StretchEnd.{StretchEnd}
 use Rattle.hc_term.specs.declared.run.StretchEnd.TheVariants as ends
@@ -52,8 +51,14 @@ module _ (t : Task) (p : ℕ) where
   with_silent-stretches c n q next g at e h =
       let twice = replaced_twice c next g.next in
       record {
-        leads = (refl, (replaced c p next, (next, silent_of-at c q at ∙ e, refl),
-          subst (Leads t (replaced c p next) (silent_items c.clock p g.logs)) twice h.leads));
+        leads = (
+          refl,
+          (
+            replaced c p next,
+            (next, silent_of-at c q at ∙ e, refl),
+            subst (Leads t (replaced c p next) (silent_items c.clock p g.logs)) twice h.leads,
+          ),
+        );
         within = omega (arith, h.within);
         unfit = λ f. subst (λ (k : Configuration). silent_of t k p ≡ Unfit) twice (h.unfit f);
       }

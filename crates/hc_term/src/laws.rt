@@ -1,6 +1,6 @@
 //! Laws of the definitions.
 
-ghost use Rattle.hc_term.specs.Laws.{CanonicalIsBehaviour, GoesOnOrStops, SilentStepsCommute, SilentAndCommCommute, EventIsRun};
+ghost use Rattle.hc_term.specs.Laws.{CanonicalIsBehaviour, GoesOnOrStops, SilentStepsCommute, SilentAndCommCommute, DelaysKeepQuiet, EventIsRun};
 
 /// What holds of every task. There is nothing to run: the clauses are the laws.
 pub fn runs()
@@ -8,5 +8,6 @@ pub fn runs()
     ensures progress { GoesOnOrStops }
     ensures silent_commute { SilentStepsCommute }
     ensures meetings_commute { SilentAndCommCommute }
+    ensures quiet { DelaysKeepQuiet }
     ensures events { EventIsRun }
 {}

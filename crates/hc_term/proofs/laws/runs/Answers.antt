@@ -1,6 +1,7 @@
 use Rattle.hc_term.proofs.Turns.{canonical_is_behaviour, goes_on_or_stops}
 use Rattle.hc_term.proofs.Commute.{silent_steps_commute, silent_and_comm_commute}
 use Rattle.hc_term.proofs.Events.{event_is_run}
+use Rattle.hc_term.proofs.Quiet.{delays_keep_quiet}
 use Rattle.hc_term.proofs.laws.runs.Goals as goal
 
 pub returns-clause-canonical : goal.returns-clause-canonical
@@ -17,3 +18,6 @@ returns-clause-meetings_commute c = silent_and_comm_commute
 
 pub returns-clause-events : goal.returns-clause-events
 returns-clause-events c = event_is_run
+
+pub returns-clause-quiet : goal.returns-clause-quiet
+returns-clause-quiet c = delays_keep_quiet
