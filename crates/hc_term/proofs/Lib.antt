@@ -10,3 +10,6 @@ pub mod Commute
 pub mod Stretches
 pub mod Events
 pub mod Quiet
+pub mod Bodies
+pub mod Handed
+pub mod Reached

@@ -9,7 +9,7 @@ use Rattle.hc_term.specs.declared.stmt.Stmt.TheViews as seen
 use Rattle.hc_term.specs.declared.stmt.Branch.{Branch, out-Branch}
 use Rattle.hc_term.specs.Rules.{is_on, uses, all_below}
 
-list_any-map : {X Y : Type 0} (p : X → Bool) (h : Y → X) (ys : List Y) → list_any p (map h ys) ≡ list_any (λ y. p (h y)) ys
+pub list_any-map : {X Y : Type 0} (p : X → Bool) (h : Y → X) (ys : List Y) → list_any p (map h ys) ≡ list_any (λ y. p (h y)) ys
 list_any-map p h [] = refl
 list_any-map p h (y ∷ ys) = ap (λ b. p (h y) || b) (list_any-map p h ys)
 

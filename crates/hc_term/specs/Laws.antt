@@ -1,14 +1,16 @@
 -- What holds of every task.
-use Rattle.std.specs.Prelude.{◌≡◌, ◌≢◌, ◌≤◌, ℕ, length, slice_get, Option, Some, None, ◌⊎◌}
+use Rattle.std.specs.Prelude.{◌≡◌, ◌≢◌, ◌<◌, ◌≤◌, ℕ, List, length, slice_get, Option, Some, None, ◌⊎◌}
 use Rattle.hc_rational.specs.Words.{Rational}
 use Rattle.hc_term.specs.declared.task.Task.{Task}
 use Rattle.hc_term.specs.declared.run.Step.{Step}
 use Rattle.hc_term.specs.declared.run.Step.TheVariants.{Silent, Comm}
+use Rattle.hc_term.specs.declared.run.Item.{Item}
 use Rattle.hc_term.specs.declared.run.Stop.{Stop}
 use Rattle.hc_term.specs.declared.model.ProcessState.{ProcessState}
+use Rattle.hc_term.specs.declared.model.Meeting.{Meeting}
 use Rattle.hc_term.specs.declared.model.Configuration.{Configuration}
 use Rattle.hc_term.specs.Posts.{Took}
-use Rattle.hc_term.specs.Step.{ready, passing, delayed, StepTo, Leads}
+use Rattle.hc_term.specs.Step.{opening, ready, passing, delayed, Meets, StepTo, Leads}
 use Rattle.hc_term.specs.Stop.{StopsAt, IsBehaviour}
 use Rattle.hc_term.specs.Canonical.{canonical}
 use Rattle.hc_term.specs.Event.{event, EndsWell}
@@ -35,6 +37,18 @@ SilentAndCommCommute =
     (t : Task) (c one two : Configuration) (p channel : ℕ) (logged : Option Rational) (value : Rational) →
     StepTo t c (Silent p logged) one → StepTo t c (Comm channel value) two →
     (both : Configuration) × StepTo t one (Comm channel value) both × StepTo t two (Silent p logged) both
+
+-- in what a run reaches, a communication joins two processes
+abbrev pub MeetingsJoinTwo : Type 0
+MeetingsJoinTwo =
+    (t : Task) (items : List Item) (c : Configuration) (m : Meeting) → Leads t (opening t) items c →
+    m.channel < length t.system.channels → Meets m c → m.sender ≢ m.receiver
+
+-- and a channel has one sender at most, with one value, and one receiver
+abbrev pub MeetingsAreUnique : Type 0
+MeetingsAreUnique =
+    (t : Task) (items : List Item) (c : Configuration) (m n : Meeting) → Leads t (opening t) items c →
+    m.channel < length t.system.channels → m.channel ≡ n.channel → Meets m c → Meets n c → m ≡ n
 
 -- a delay makes no channel ready
 abbrev pub DelaysKeepQuiet : Type 0

@@ -1,6 +1,6 @@
 //! Laws of the definitions.
 
-ghost use Rattle.hc_term.specs.Laws.{CanonicalIsBehaviour, GoesOnOrStops, SilentStepsCommute, SilentAndCommCommute, DelaysKeepQuiet, EventIsRun};
+ghost use Rattle.hc_term.specs.Laws.{CanonicalIsBehaviour, GoesOnOrStops, SilentStepsCommute, SilentAndCommCommute, DelaysKeepQuiet, EventIsRun, MeetingsJoinTwo, MeetingsAreUnique};
 
 /// What holds of every task. There is nothing to run: the clauses are the laws.
 pub fn runs()
@@ -10,4 +10,10 @@ pub fn runs()
     ensures meetings_commute { SilentAndCommCommute }
     ensures quiet { DelaysKeepQuiet }
     ensures events { EventIsRun }
+{}
+
+/// What holds of every run of a task, from its opening on. There is nothing to run: the clauses are the laws.
+pub fn runs_from_opening()
+    ensures joins_two { MeetingsJoinTwo }
+    ensures unique { MeetingsAreUnique }
 {}
