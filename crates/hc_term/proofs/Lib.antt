@@ -1,3 +1,12 @@
 pub mod Sizes
 pub mod Ruled
 pub mod Used
+pub mod Wanting
+pub mod Ready
+pub mod Turns
+pub mod Places
+pub mod Offering
+pub mod Commute
+pub mod Stretches
+pub mod Events
+pub mod Quiet

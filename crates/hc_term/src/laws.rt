@@ -3,4 +3,11 @@
 ghost use Rattle.hc_term.specs.Laws.{CanonicalIsBehaviour, GoesOnOrStops, SilentStepsCommute, SilentAndCommCommute, DelaysKeepQuiet, EventIsRun};
 
 /// What holds of every task. There is nothing to run: the clauses are the laws.
-pub fn runs() {}
+pub fn runs()
+    ensures canonical { CanonicalIsBehaviour }
+    ensures progress { GoesOnOrStops }
+    ensures silent_commute { SilentStepsCommute }
+    ensures meetings_commute { SilentAndCommCommute }
+    ensures quiet { DelaysKeepQuiet }
+    ensures events { EventIsRun }
+{}

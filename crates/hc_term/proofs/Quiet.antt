@@ -1,0 +1,172 @@
+-- A delay makes no channel ready.
+use Rattle.std.proofs.Common.{◌≡◌, refl, sym, ap, ap₂, ◌∙◌, ℕ, zero, suc, ◌+◌, Bool, true, false, not, ◌&&◌, ◌||◌, if◌then◌else◌, List, [], ◌∷◌, map, length, Option, Some, None, ◌⊎◌, inl, inr, ⊎_elim, true≢false, ◌==◌}
+use Rattle.hc_rational.specs.Words.{Rational, ◌+ℚ◌}
+use Rattle.hc_term.specs.declared.stmt.Io.{Io}
+use Rattle.hc_term.specs.declared.stmt.Io.TheVariants.{Send, Receive}
+use Rattle.hc_term.specs.declared.stmt.Stmt.{Stmt, out-Stmt}
+use Rattle.hc_term.specs.declared.stmt.Stmt.TheOpen.{Stmt-F}
+use Rattle.hc_term.specs.declared.stmt.Branch.{Branch, out-Branch}
+use Rattle.hc_term.specs.declared.post.Offer.{Offer}
+use Rattle.hc_term.specs.declared.model.Mark.{Mark}
+use Rattle.hc_term.specs.declared.model.Mark.TheVariants.{Going, Arrived}
+use Rattle.hc_term.specs.declared.model.ProcessState.{ProcessState}
+use Rattle.hc_term.specs.declared.model.Meeting.{Meeting}
+use Rattle.hc_term.specs.Value.{Store}
+use Rattle.hc_term.specs.Motion.{Rates, rates_in, after}
+use Rattle.hc_term.specs.Process.{Layer, bound_here, is_due, wants}
+use Rattle.hc_term.specs.Offers.{offer_of, offers_of, offers_here, post}
+use Rattle.hc_term.specs.Communication.{moved_store, left_after, moved}
+use Rattle.hc_term.specs.Posts.{Passing, Took, first_of, gift_of, is_wish, gift, wishes, numbered, sender, receiver, meeting_by, meeting_on, meeting_from}
+use Rattle.hc_term.specs.Step.{ready, rests, passing_by, passing_quiet}
+use Rattle.hc_term.specs.Laws.{DelaysKeepQuiet}
+
+-- ---- offers
+
+-- the offers ns are on no other channels than the offers os
+record NoMore (os ns : List Offer) : Type 0 where
+  no_gift : (c : ℕ) → gift c os ≡ None → gift c ns ≡ None
+  no_wish : (c : ℕ) → wishes c os ≡ false → wishes c ns ≡ false
+
+no_more_same : (os : List Offer) → NoMore os os
+no_more_same os = record { no_gift = λ c e. e; no_wish = λ c e. e }
+
+no_more_none : (os : List Offer) → NoMore os []
+no_more_none os = record { no_gift = λ c e. refl; no_wish = λ c e. refl }
+
+first_of-none : {A : Type 0} (o p : Option A) → first_of o p ≡ None → (o ≡ None) × (p ≡ None)
+first_of-none (Some a) p e = cc
+first_of-none None p e = (refl, e)
+
+none_first_of : {A : Type 0} (o p : Option A) → o ≡ None → p ≡ None → first_of o p ≡ None
+none_first_of o p e f = ap (λ x. first_of x p) e ∙ f
+
+-- whether there is a gift doesn't turn on its value
+no_gift_by : (b : Bool) (v w : Rational) → (if b then Some v else None) ≡ None → (if b then Some w else None) ≡ None
+no_gift_by true v w e = cc
+no_gift_by false v w e = refl
+
+module _ (s₀ s₁ : Store) (r₀ r₁ : Rates) where
+  gift_of-moves : (c : ℕ) (io : Io) → gift_of c (offer_of s₀ r₀ io) ≡ None → gift_of c (offer_of s₁ r₁ io) ≡ None
+  gift_of-moves c (Send channel value) e = no_gift_by (channel == c) _ _ e
+  gift_of-moves c (Receive channel variable) e = refl
+
+  is_wish-moves : (c : ℕ) (io : Io) → is_wish c (offer_of s₀ r₀ io) ≡ is_wish c (offer_of s₁ r₁ io)
+  is_wish-moves c (Send channel value) = refl
+  is_wish-moves c (Receive channel variable) = refl
+
+  gift-moves : (c : ℕ) (bs : List Branch) → gift c (offers_of s₀ r₀ bs) ≡ None → gift c (offers_of s₁ r₁ bs) ≡ None
+  gift-moves c [] e = refl
+  gift-moves c (b ∷ bs) e =
+      let parts = first_of-none (gift_of c (offer_of s₀ r₀ (out-Branch b).io)) (gift c (offers_of s₀ r₀ bs)) e in
+      none_first_of _ _ (gift_of-moves c (out-Branch b).io parts.0) (gift-moves c bs parts.1)
+
+  wishes-moves : (c : ℕ) (bs : List Branch) → wishes c (offers_of s₀ r₀ bs) ≡ wishes c (offers_of s₁ r₁ bs)
+  wishes-moves c [] = refl
+  wishes-moves c (b ∷ bs) = ap₂ (λ x y. x || y) (is_wish-moves c (out-Branch b).io) (wishes-moves c bs)
+
+  offers_of-moves : (bs : List Branch) → NoMore (offers_of s₀ r₀ bs) (offers_of s₁ r₁ bs)
+  offers_of-moves bs = record { no_gift = λ c e. gift-moves c bs e; no_wish = λ c e. sym (wishes-moves c bs) ∙ e }
+
+-- ---- one process
+
+at_end : (b₀ b₁ : Bool) (os ns : List Offer) → b₀ ≡ false → NoMore os ns → NoMore (if b₀ then [] else os) (if b₁ then [] else ns)
+at_end true b₁ os ns e h = absurd (true≢false e)
+at_end false true os ns e h = no_more_none os
+at_end false false os ns e h = h
+
+here-moves : (s : Store) (left d : Rational) (l : Layer) → is_due (bound_here s left l) ≡ false →
+    let s₁ = moved_store s d l in
+    NoMore (offers_here s (bound_here s left l) l) (offers_here s₁ (bound_here s₁ (left_after left d l) l) l)
+here-moves s left d Stmt-F.Skip e = no_more_none []
+here-moves s left d (Stmt-F.Assign x a) e = no_more_none []
+here-moves s left d (Stmt-F.Log a) e = no_more_none []
+here-moves s left d (Stmt-F.If test first second) e = no_more_none []
+here-moves s left d (Stmt-F.Pick one other) e = no_more_none []
+here-moves s left d (Stmt-F.Forever body) e = no_more_none []
+here-moves s left d (Stmt-F.Loop test body) e = no_more_none []
+here-moves s left d (Stmt-F.Wait time) e = no_more_none []
+here-moves s left d (Stmt-F.Io io) e = no_more_same _
+here-moves s left d (Stmt-F.Choice branches) e = no_more_same _
+here-moves s left d (Stmt-F.Evolve rates domain branches) e =
+    at_end _ _ _ _ e (offers_of-moves s (after s (rates_in rates s) d) (rates_in rates s) (rates_in rates (after s (rates_in rates s) d)) branches)
+
+module _ (k₀ k₁ d : Rational) where
+  moved_by_parts : (todo : List Stmt) (store : Store) (choices : ℕ) (mark : Mark) →
+      let q : ProcessState = record { todo = todo; store = store; choices = choices; mark = mark } in
+      wants q ≡ false → NoMore (post k₀ q).offers (post k₁ (moved d q)).offers
+  moved_by_parts [] store choices Going e = no_more_none []
+  moved_by_parts [] store choices (Arrived left) e = no_more_none []
+  moved_by_parts (head ∷ rest) store choices Going e = no_more_none []
+  moved_by_parts (head ∷ rest) store choices (Arrived left) e = here-moves store left d (out-Stmt head) e
+
+  moved-no_more : (q : ProcessState) → wants q ≡ false → NoMore (post k₀ q).offers (post k₁ (moved d q)).offers
+  moved-no_more q = moved_by_parts q.todo q.store q.choices q.mark
+
+  -- ---- all processes
+
+  rests-cons : (b c : Bool) → (not b && c) ≡ true → (b ≡ false) × (c ≡ true)
+  rests-cons true c e = cc
+  rests-cons false c e = (refl, e)
+
+  numbered-none : (p : ℕ) (o : Option Rational) → numbered p o ≡ None → o ≡ None
+  numbered-none p None e = refl
+  numbered-none p (Some v) e = cc
+
+  sender-moves : (c p : ℕ) (qs : List ProcessState) → rests qs ≡ true →
+      sender c p (map (post k₀) qs) ≡ None → sender c p (map (post k₁) (map (moved d) qs)) ≡ None
+  sender-moves c p [] h e = refl
+  sender-moves c p (q ∷ qs) h e =
+      let r = rests-cons (wants q) (rests qs) h in
+      let parts = first_of-none (numbered p (gift c (post k₀ q).offers)) (sender c (p + 1) (map (post k₀) qs)) e in
+      let g = (moved-no_more q r.0).no_gift c (numbered-none p (gift c (post k₀ q).offers) parts.0) in
+      none_first_of _ _ (ap (numbered p) g) (sender-moves c (p + 1) qs r.1 parts.1)
+
+  receiver-none : (b : Bool) (p : ℕ) (o : Option ℕ) → (if b then Some p else o) ≡ None → (b ≡ false) × (o ≡ None)
+  receiver-none true p o e = cc
+  receiver-none false p o e = (refl, e)
+
+  receiver-moves : (c p : ℕ) (qs : List ProcessState) → rests qs ≡ true →
+      receiver c p (map (post k₀) qs) ≡ None → receiver c p (map (post k₁) (map (moved d) qs)) ≡ None
+  receiver-moves c p [] h e = refl
+  receiver-moves c p (q ∷ qs) h e =
+      let r = rests-cons (wants q) (rests qs) h in
+      let parts = receiver-none (wishes c (post k₀ q).offers) p (receiver c (p + 1) (map (post k₀) qs)) e in
+      let w = (moved-no_more q r.0).no_wish c parts.0 in
+      ap (λ b. if b then Some p else receiver c (p + 1) (map (post k₁) (map (moved d) qs))) w ∙ receiver-moves c (p + 1) qs r.1 parts.1
+
+  meeting_by-none : (c : ℕ) (s : Option (ℕ × Rational)) (r : Option ℕ) → meeting_by c s r ≡ None → (s ≡ None) ⊎ (r ≡ None)
+  meeting_by-none c (Some s) (Some r) e = cc
+  meeting_by-none c (Some s) None e = inr refl
+  meeting_by-none c None r e = inl refl
+
+  none_meeting_by : (c : ℕ) (s : Option (ℕ × Rational)) (r : Option ℕ) → (s ≡ None) ⊎ (r ≡ None) → meeting_by c s r ≡ None
+  none_meeting_by c s r (inl e) = ap (λ x. meeting_by c x r) e
+  none_meeting_by c (Some s) r (inr e) = ap (λ x. meeting_by c (Some s) x) e
+  none_meeting_by c None r (inr e) = refl
+
+  meeting_on-moves : (c : ℕ) (qs : List ProcessState) → rests qs ≡ true →
+      meeting_on c (map (post k₀) qs) ≡ None → meeting_on c (map (post k₁) (map (moved d) qs)) ≡ None
+  meeting_on-moves c qs h e =
+      none_meeting_by c _ _
+      (⊎_elim (λ s. inl (sender-moves c 0 qs h s)) (λ r. inr (receiver-moves c 0 qs h r))
+      (meeting_by-none c (sender c 0 (map (post k₀) qs)) (receiver c 0 (map (post k₀) qs)) e))
+
+  meeting_from-moves : (c n : ℕ) (qs : List ProcessState) → rests qs ≡ true →
+      meeting_from c n (map (post k₀) qs) ≡ None → meeting_from c n (map (post k₁) (map (moved d) qs)) ≡ None
+  meeting_from-moves c zero qs h e = refl
+  meeting_from-moves c (suc n) qs h e =
+      let parts = first_of-none (meeting_on c (map (post k₀) qs)) (meeting_from (c + 1) n (map (post k₀) qs)) e in
+      none_first_of _ _ (meeting_on-moves c qs h parts.0) (meeting_from-moves (c + 1) n qs h parts.1)
+
+-- ---- the law
+
+-- where time passes, no channel is ready and no process wants a silent step
+passing_by-quiet : (o : Option Meeting) (b : Bool) (what took : Passing) → passing_by o b what ≡ Some took → (o ≡ None) × (b ≡ true)
+passing_by-quiet (Some m) b what took e = cc
+passing_by-quiet None false what took e = cc
+passing_by-quiet None true what took e = (refl, refl)
+
+pub delays_keep_quiet : DelaysKeepQuiet
+delays_keep_quiet t c d e =
+    let h = passing_by-quiet (ready t c) (rests c.processes) (passing_quiet t c) (Took d) e in
+    meeting_from-moves c.clock (c.clock +ℚ d) d 0 (length t.system.channels) c.processes h.1 h.0

@@ -1,0 +1,107 @@
+-- What a configuration does next is one of its steps or its stops, and so the canonical run is a run.
+use Rattle.std.proofs.Common.{◌≡◌, refl, sym, ap, ◌∙◌, ℕ, zero, suc, ◌-◌, ◌≤◌, ◌<◌, Bool, true, false, if◌then◌else◌, length, slice_get, Option, Some, None, ◌⊎◌, inl, inr, arith}
+use Rattle.hc_term.specs.declared.task.Task.{Task}
+use Rattle.hc_term.specs.declared.run.Step.{Step}
+use Rattle.hc_term.specs.declared.run.Stop.{Stop}
+use Rattle.hc_term.specs.declared.run.Stop.TheVariants.{Terminated, Deadlock, Limit}
+use Rattle.hc_term.specs.declared.model.Meeting.{Meeting}
+use Rattle.hc_term.specs.declared.model.Configuration.{Configuration}
+use Rattle.hc_term.specs.Silent.{Outcome, Idle, Unfit, Did}
+use Rattle.hc_term.specs.Posts.{Passing, NoBound, AtHorizon, TooLarge, Took}
+use Rattle.hc_term.specs.Step.{opening, ready, rests, all_ended, passing, passing_by, passing_quiet, silent_by, silent_of, StepTo, Leads}
+use Rattle.hc_term.specs.Stop.{StopsAt}
+use Rattle.hc_term.specs.Canonical.{Turn, Goes, Halts, wanting_from, turn_silent, turn_passing, turn_quiet, turn_by, turn, Course, course_by, course}
+use Rattle.hc_term.specs.Laws.{CanonicalIsBehaviour, GoesOnOrStops}
+use Rattle.hc_term.proofs.Wanting.{Wanting, silent-not_idle, wanting_from-wanting, rests_where_none_wants}
+use Rattle.hc_term.proofs.Ready.{ready-steps}
+
+-- ---- one turn
+
+-- the turn is a step of the configuration, or one of its stops
+abbrev Sound : Task → Configuration → Turn → Type 0
+Sound t c (Goes step next) = StepTo t c step next
+Sound t c (Halts stop) = StopsAt t c stop
+
+turn_silent-sound : (t : Task) (c : Configuration) (p : ℕ) (o : Outcome) → silent_of t c p ≡ o → (o ≡ Idle → ⊥) → Sound t c (turn_silent c p o)
+turn_silent-sound t c p (Did logged q) e n = (q, e, refl)
+turn_silent-sound t c p Unfit e n = e
+turn_silent-sound t c p Idle e n = absurd (n refl)
+
+ended_by-sound : (t : Task) (c : Configuration) (b : Bool) → all_ended c.processes ≡ b → passing t c ≡ Some NoBound →
+    StopsAt t c (if b then Terminated else Deadlock)
+ended_by-sound t c true h e = h
+ended_by-sound t c false h e = (e, h)
+
+pub ended_by-stops : (t : Task) (c : Configuration) → passing t c ≡ Some NoBound → StopsAt t c (if all_ended c.processes then Terminated else Deadlock)
+ended_by-stops t c e = ended_by-sound t c (all_ended c.processes) refl e
+
+turn_passing-sound : (t : Task) (c : Configuration) (what : Passing) → passing t c ≡ Some what → Sound t c (turn_passing c what)
+turn_passing-sound t c (Took d) e = (e, refl)
+turn_passing-sound t c TooLarge e = e
+turn_passing-sound t c AtHorizon e = e
+turn_passing-sound t c NoBound e = ended_by-stops t c e
+
+passing_at : (t : Task) (c : Configuration) → ready t c ≡ None → rests c.processes ≡ true → passing t c ≡ Some (passing_quiet t c)
+passing_at t c quiet r =
+    ap (λ o. passing_by o (rests c.processes) (passing_quiet t c)) quiet ∙ ap (λ b. passing_by None b (passing_quiet t c)) r
+
+wanting-not_idle : (t : Task) (c : Configuration) (p : ℕ) → Wanting 0 c.processes p → silent_of t c p ≡ Idle → ⊥
+wanting-not_idle t c p w e =
+    let same : p ≡ p - 0 = omega arith in
+    let at : slice_get c.processes p ≡ Some w.process = ap (slice_get c.processes) same ∙ w.at in
+    silent-not_idle t.seed p c.clock w.process w.wanting (sym (ap (silent_by t c.clock p) at) ∙ e)
+
+turn_quiet-sound : (t : Task) (c : Configuration) (o : Option ℕ) → ready t c ≡ None → wanting_from 0 c.processes ≡ o → Sound t c (turn_quiet t c o)
+turn_quiet-sound t c (Some p) quiet e =
+    turn_silent-sound t c p (silent_of t c p) refl (wanting-not_idle t c p (wanting_from-wanting 0 c.processes p e))
+turn_quiet-sound t c None quiet e =
+    turn_passing-sound t c (passing_quiet t c) (passing_at t c quiet (rests_where_none_wants 0 c.processes e))
+
+turn_by-sound : (t : Task) (c : Configuration) (o : Option Meeting) → ready t c ≡ o → Sound t c (turn_by t c o)
+turn_by-sound t c (Some m) e = ready-steps t c m e
+turn_by-sound t c None e = turn_quiet-sound t c (wanting_from 0 c.processes) e refl
+
+turn-sound : (t : Task) (c : Configuration) → Sound t c (turn t c)
+turn-sound t c = turn_by-sound t c (ready t c) refl
+
+sound-goes_or_stops : (t : Task) (c : Configuration) (o : Turn) → Sound t c o →
+    ((step : Step) × (next : Configuration) × StepTo t c step next) ⊎ ((stop : Stop) × StopsAt t c stop)
+sound-goes_or_stops t c (Goes step next) h = inl (step, next, h)
+sound-goes_or_stops t c (Halts stop) h = inr (stop, h)
+
+pub goes_on_or_stops : GoesOnOrStops
+goes_on_or_stops t c = sound-goes_or_stops t c (turn t c) (turn-sound t c)
+
+-- ---- the course from a configuration
+
+-- the course is a piece of a run of at most n steps, and ends with a stop
+record Follows (t : Task) (c : Configuration) (n : ℕ) (k : Course) : Type 0 where
+  leads : Leads t c k.items k.end
+  within : length k.items ≤ n
+  stops : ((length k.items ≡ n) × (k.stop ≡ Limit)) ⊎ ((length k.items < n) × StopsAt t k.end k.stop)
+
+stops_later : (t : Task) (n m : ℕ) (end : Configuration) (stop : Stop) →
+    ((m ≡ n) × (stop ≡ Limit)) ⊎ ((m < n) × StopsAt t end stop) → ((suc m ≡ suc n) × (stop ≡ Limit)) ⊎ ((suc m < suc n) × StopsAt t end stop)
+stops_later t n m end stop (inl h) = inl (ap suc h.0, h.1)
+stops_later t n m end stop (inr h) = inr (omega (arith, h.0), h.1)
+
+course_by-follows : (n : ℕ) (t : Task) (c : Configuration) (o : Turn) → Sound t c o → ((next : Configuration) → Follows t next n (course n t next)) →
+    Follows t c (suc n) (course_by c (course n t) o)
+course_by-follows n t c (Halts stop) h ih = record { leads = refl; within = omega arith; stops = inr (omega arith, h) }
+course_by-follows n t c (Goes step next) h ih =
+    let more = ih next in
+    let k : Course = course n t next in
+    record {
+      leads = (refl, (next, h, more.leads));
+      within = omega (arith, more.within);
+      stops = stops_later t n (length k.items) k.end k.stop more.stops;
+    }
+
+course-follows : (n : ℕ) (t : Task) (c : Configuration) → Follows t c n (course n t c)
+course-follows zero t c = record { leads = refl; within = omega arith; stops = inl (refl, refl) }
+course-follows (suc n) t c = course_by-follows n t c (turn t c) (turn-sound t c) (course-follows n t)
+
+pub canonical_is_behaviour : CanonicalIsBehaviour
+canonical_is_behaviour t =
+    let f = course-follows t.limit t (opening t) in
+    record { run = record { leads = f.leads; within = f.within }; stops = f.stops }

@@ -1,0 +1,92 @@
+-- A process that wants a silent step has one, or its working values don't fit.
+use Rattle.std.proofs.Common.{◌≡◌, refl, sym, subst, ℕ, suc, ◌+◌, ◌-◌, ◌≤◌, Bool, true, false, not, ◌&&◌, if◌then◌else◌, List, [], ◌∷◌, slice_get, Option, Some, None, arith}
+use Rattle.hc_rational.specs.Words.{Rational}
+use Rattle.hc_term.specs.declared.stmt.Stmt.{Stmt, out-Stmt}
+use Rattle.hc_term.specs.declared.stmt.Stmt.TheOpen.{Stmt-F}
+use Rattle.hc_term.specs.declared.model.Mark.{Mark}
+use Rattle.hc_term.specs.declared.model.Mark.TheVariants.{Going, Arrived}
+use Rattle.hc_term.specs.declared.model.ProcessState.{ProcessState}
+use Rattle.hc_term.specs.Process.{Layer, bound, is_due, wants, wants_at}
+use Rattle.hc_term.specs.Silent.{Idle, Did, if_fit, goes_on, going_step, silent_at, silent}
+use Rattle.hc_term.specs.Step.{rests}
+use Rattle.hc_term.specs.Canonical.{wanting_from}
+
+-- ---- a wanted step is there
+
+if_fit-not_idle : (b : Bool) (logged : Option Rational) (next : ProcessState) → if_fit b (Did logged next) ≡ Idle → ⊥
+if_fit-not_idle true logged next e = cc
+if_fit-not_idle false logged next e = cc
+
+going_step-not_idle : (seed p : ℕ) (clock : Rational) (c : ProcessState) (head : Stmt) (rest : List Stmt) (l : Layer) →
+    going_step seed p clock c head rest l ≡ Idle → ⊥
+going_step-not_idle seed p clock c head rest Stmt-F.Skip e = cc
+going_step-not_idle seed p clock c head rest (Stmt-F.Assign x a) e = if_fit-not_idle _ _ _ e
+going_step-not_idle seed p clock c head rest (Stmt-F.Log a) e = if_fit-not_idle _ _ _ e
+going_step-not_idle seed p clock c head rest (Stmt-F.If test first second) e = if_fit-not_idle _ _ _ e
+going_step-not_idle seed p clock c head rest (Stmt-F.Pick left right) e = cc
+going_step-not_idle seed p clock c head rest (Stmt-F.Forever body) e = cc
+going_step-not_idle seed p clock c head rest (Stmt-F.Loop test body) e = if_fit-not_idle _ _ _ e
+going_step-not_idle seed p clock c head rest (Stmt-F.Wait time) e = if_fit-not_idle _ _ _ e
+going_step-not_idle seed p clock c head rest (Stmt-F.Io io) e = if_fit-not_idle _ _ _ e
+going_step-not_idle seed p clock c head rest (Stmt-F.Choice branches) e = if_fit-not_idle _ _ _ e
+going_step-not_idle seed p clock c head rest (Stmt-F.Evolve rates domain branches) e = if_fit-not_idle _ _ _ e
+
+due_step-not_idle : (c : ProcessState) (rest : List Stmt) (b : Bool) → b ≡ true → (if b then goes_on c rest else Idle) ≡ Idle → ⊥
+due_step-not_idle c rest true h e = cc
+due_step-not_idle c rest false h e = cc
+
+silent_at-not_idle : (seed p : ℕ) (clock : Rational) (c : ProcessState) (mark : Mark) (todo : List Stmt) →
+    wants_at mark (bound c) todo ≡ true → silent_at seed p clock c mark todo ≡ Idle → ⊥
+silent_at-not_idle seed p clock c mark [] h e = cc
+silent_at-not_idle seed p clock c Going (head ∷ rest) h e = going_step-not_idle seed p clock c head rest (out-Stmt head) e
+silent_at-not_idle seed p clock c (Arrived left) (head ∷ rest) h e = due_step-not_idle c rest (is_due (bound c)) h e
+
+pub silent-not_idle : (seed p : ℕ) (clock : Rational) (c : ProcessState) → wants c ≡ true → silent seed p clock c ≡ Idle → ⊥
+silent-not_idle seed p clock c = silent_at-not_idle seed p clock c c.mark c.todo
+
+-- ---- the least process that wants one
+
+-- the process at this place wants a silent step, in a list that begins with number `from`
+pub record Wanting (from : ℕ) (ps : List ProcessState) (p : ℕ) : Type 0 where
+  pub process : ProcessState
+  pub at : slice_get ps (p - from) ≡ Some process
+  pub wanting : wants process ≡ true
+  pub behind : from ≤ p
+
+wanting_later : (from : ℕ) (q : ProcessState) (qs : List ProcessState) (p : ℕ) → Wanting (from + 1) qs p → Wanting from (q ∷ qs) p
+wanting_later from q qs p w =
+    let e : p - from ≡ suc (p - (from + 1)) = omega (arith, w.behind) in
+    record {
+      process = w.process;
+      at = subst (λ (n : ℕ). slice_get (q ∷ qs) n ≡ Some w.process) (sym e) w.at;
+      wanting = w.wanting;
+      behind = omega (arith, w.behind);
+    }
+
+wanting_next : (from : ℕ) (q : ProcessState) (qs : List ProcessState) (p : ℕ) (b : Bool) → wants q ≡ b →
+    (wanting_from (from + 1) qs ≡ Some p → Wanting (from + 1) qs p) →
+    (if b then Some from else wanting_from (from + 1) qs) ≡ Some p → Wanting from (q ∷ qs) p
+wanting_next from q qs p true h ih e =
+    let same : from ≡ p = cc in
+    let none : p - from ≡ 0 = omega (arith, same) in
+    record {
+      process = q;
+      at = subst (λ (n : ℕ). slice_get (q ∷ qs) n ≡ Some q) (sym none) refl;
+      wanting = h;
+      behind = omega (arith, same);
+    }
+wanting_next from q qs p false h ih e = wanting_later from q qs p (ih e)
+
+pub wanting_from-wanting : (from : ℕ) (ps : List ProcessState) (p : ℕ) → wanting_from from ps ≡ Some p → Wanting from ps p
+wanting_from-wanting from [] p e = cc
+wanting_from-wanting from (q ∷ qs) p e = wanting_next from q qs p (wants q) refl (wanting_from-wanting (from + 1) qs p) e
+
+rests_next : (from : ℕ) (q : ProcessState) (qs : List ProcessState) (b : Bool) →
+    (wanting_from (from + 1) qs ≡ None → rests qs ≡ true) →
+    (if b then Some from else wanting_from (from + 1) qs) ≡ None → (not b && rests qs) ≡ true
+rests_next from q qs true ih e = cc
+rests_next from q qs false ih e = ih e
+
+pub rests_where_none_wants : (from : ℕ) (ps : List ProcessState) → wanting_from from ps ≡ None → rests ps ≡ true
+rests_where_none_wants from [] e = refl
+rests_where_none_wants from (q ∷ qs) e = rests_next from q qs (wants q) (rests_where_none_wants (from + 1) qs) e
