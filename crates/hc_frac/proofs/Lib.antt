@@ -1,2 +1,5 @@
 pub mod Kept
 pub mod Words
+pub mod Reduced
+pub mod Wide
+pub mod TextLemmas

@@ -1,6 +1,9 @@
 //! Decimal numbers.
 
-ghost use Rattle.std.specs.Prelude.{◌≡◌, ◌≤◌, ◌≤ℤ◌, pos, IsSome, IfSome, ◌↔◌};
+ghost use Rattle.std.specs.Prelude.{◌≡◌, ◌≤◌, ◌≤ℤ◌, pos, IsSome, IfSome, ◌↔◌, ◌^◌};
+ghost use Rattle.hc_rational.specs.Words.{quotient};
+
+use crate::frac::{Frac, reduced};
 
 /// A decimal number as it is written: its digits read as one number, and how many of them stand
 /// behind the point.
@@ -37,5 +40,16 @@ impl Decimal {
         ensures { result ≡ self.places }
     {
         self.places
+    }
+
+    /// The fraction that is written: the digits by ten to the places.
+    pub fn value(self) -> Frac
+        ensures { result ≡ quotient self.digits (10 ^ self.places) }
+    {
+        let Some(value) = reduced(i128::from(self.digits), 10u128.pow(u32::from(self.places)))
+        else {
+            unreachable!()
+        };
+        value
     }
 }

@@ -3,8 +3,10 @@
 
 mod decimal;
 mod frac;
+mod lowest;
 mod name;
 mod place;
+mod reading;
 
 pub use decimal::Decimal;
 pub use frac::Frac;

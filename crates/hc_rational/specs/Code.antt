@@ -1,7 +1,7 @@
 -- A rational is known by its two parts, and so it can be what a contract sees of a value.
 use Rattle.std.specs.Prelude.{◌≡◌, ℕ, zero, suc, ◌/◌, ◌<◌, T, ◌==◌, nat_lt, ℤ, pos, negsuc, neg_ℤ, unsigned_abs, int_div}
 use Rattle.std.specs.Coded.{Coded, code_by, coded×, coded_ℤ, coded_ℕ}
-use Rattle.std.proofs.Common.{ap, ◌∙◌, subst, arith}
+use Rattle.std.proofs.Common.{refl, ap, ◌∙◌, subst, arith}
 use Rattle.std.proofs.Math.Dec.{T_prop, ltb→lt, eqb→eq}
 use Rattle.std.proofs.Math.Nat.{div-one}
 use Rattle.hc_rational.specs.Gcd.{gcd}
@@ -49,3 +49,14 @@ quotient-own q = same_rational _ q (num-quotient q.num q.den (den-pos q) (gcd-on
 -- a rational is stored as its numerator and denominator
 abbrev pub rational_code : Coded Rational
 rational_code = code_by (ℤ × ℕ) (coded× coded_ℤ coded_ℕ) (λ q. (q.num, q.den)) (λ p. quotient p.0 p.1) quotient-own
+
+-- the parts of a quotient
+pub num-quotient_is : (z : ℤ) (d : ℕ) → 0 < d → (quotient z d).num ≡ int_div z (pos (gcd (unsigned_abs z) d))
+unfolding quotient
+num-quotient_is z zero p = absurd (omega arith)
+num-quotient_is z (suc k) p = refl
+
+pub den-quotient_is : (z : ℤ) (d : ℕ) → 0 < d → (quotient z d).den ≡ d / gcd (unsigned_abs z) d
+unfolding quotient
+den-quotient_is z zero p = absurd (omega arith)
+den-quotient_is z (suc k) p = refl

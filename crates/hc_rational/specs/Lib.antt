@@ -5,4 +5,5 @@ pub mod Order
 pub mod Fits
 pub mod Ends
 pub mod Code
+pub mod Laws
 pub mod Words

@@ -1,5 +1,5 @@
 -- The order of rational numbers.
-use Rattle.std.specs.Prelude.{◌≡◌, Bool, ◌==◌, ◌↔◌, pos, ◌*ℤ◌, ◌≤ℤ◌, ◌<ℤ◌, int_lt, unsigned_abs}
+use Rattle.std.specs.Prelude.{◌≡◌, Bool, ◌==◌, ◌↔◌, ◌⊎◌, pos, ◌*ℤ◌, ◌≤ℤ◌, ◌<ℤ◌, int_lt, unsigned_abs}
 use Rattle.std.specs.declared.cmp.Ordering.{Ordering}
 use Rattle.std.specs.declared.cmp.Ordering.TheVariants.{Less, Equal, Greater}
 use Rattle.std.specs.Ordering.{int_cmp}
@@ -24,7 +24,8 @@ pub record Ranks (q r : Rational) (o : Ordering) : Type 0 where
   pub equal : (o ≡ Equal) ↔ (q ≡ r)
   pub greater : (o ≡ Greater) ↔ (r <ℚ q)
 
-abbrev by_rank : Ordering → Rational → Rational → Rational
+-- the second where the rank is greater, else the first
+abbrev pub by_rank : Ordering → Rational → Rational → Rational
 by_rank Less q r = q
 by_rank Equal q r = q
 by_rank Greater q r = r
@@ -36,6 +37,18 @@ lesser q r = by_rank (rank q r) q r
 -- the greater of the two
 abbrev pub greater : Rational → Rational → Rational
 greater q r = by_rank (rank q r) r q
+
+-- s is one of q and r, and at most each of them
+pub record IsLesser (q r s : Rational) : Type 0 where
+  pub first : s ≤ℚ q
+  pub second : s ≤ℚ r
+  pub one : (s ≡ q) ⊎ (s ≡ r)
+
+-- s is one of q and r, and at least each of them
+pub record IsGreater (q r s : Rational) : Type 0 where
+  pub first : q ≤ℚ s
+  pub second : r ≤ℚ s
+  pub one : (s ≡ q) ⊎ (s ≡ r)
 
 abbrev pub is_zero : Rational → Bool
 is_zero q = unsigned_abs q.num == 0

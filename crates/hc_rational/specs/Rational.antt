@@ -1,6 +1,7 @@
 -- Rational numbers of any size, in lowest terms, so that two are equal exactly where they are the same number.
-use Rattle.std.specs.Prelude.{ℕ, zero, suc, ◌*◌, ◌/◌, T, ◌==◌, nat_lt, ℤ, pos, ◌+ℤ◌, ◌*ℤ◌, neg_ℤ, unsigned_abs, int_div}
+use Rattle.std.specs.Prelude.{◌≡◌, ℕ, zero, suc, ◌*◌, ◌/◌, T, ◌==◌, nat_lt, ℤ, pos, ◌+ℤ◌, ◌*ℤ◌, neg_ℤ, unsigned_abs, int_div}
 use Rattle.std.specs.Int.{int_signum}
+use Rattle.std.proofs.Common.{refl}
 use Rattle.hc_rational.specs.Gcd.{gcd}
 use Rattle.hc_rational.specs.LowestTerms.{pass_lt, pass_eq, quotient-pos, quotient-lowest, whole-lowest, some-suc}
 
@@ -57,6 +58,10 @@ neg_ℚ q = quotient (neg_ℤ q.num) q.den
 unfoldable pub ◌-ℚ◌ : Rational → Rational → Rational
 unfolding ◌+ℚ◌ neg_ℚ
 q -ℚ r = q +ℚ neg_ℚ r
+
+pub difference-is : (q r : Rational) → q -ℚ r ≡ q +ℚ neg_ℚ r
+unfolding ◌-ℚ◌
+difference-is q r = refl
 
 unfoldable pub ◌*ℚ◌ : Rational → Rational → Rational
 unfolding quotient

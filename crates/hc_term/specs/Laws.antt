@@ -1,0 +1,47 @@
+-- What holds of every task.
+use Rattle.std.specs.Prelude.{◌≡◌, ◌≢◌, ◌≤◌, ℕ, length, slice_get, Option, Some, None, ◌⊎◌}
+use Rattle.hc_rational.specs.Words.{Rational}
+use Rattle.hc_term.specs.declared.task.Task.{Task}
+use Rattle.hc_term.specs.declared.run.Step.{Step}
+use Rattle.hc_term.specs.declared.run.Step.TheVariants.{Silent, Comm}
+use Rattle.hc_term.specs.declared.run.Stop.{Stop}
+use Rattle.hc_term.specs.declared.model.ProcessState.{ProcessState}
+use Rattle.hc_term.specs.declared.model.Configuration.{Configuration}
+use Rattle.hc_term.specs.Posts.{Took}
+use Rattle.hc_term.specs.Step.{ready, passing, delayed, StepTo, Leads}
+use Rattle.hc_term.specs.Stop.{StopsAt, IsBehaviour}
+use Rattle.hc_term.specs.Canonical.{canonical}
+use Rattle.hc_term.specs.Event.{event, EndsWell}
+
+-- the canonical run is a run with one of its stops
+abbrev pub CanonicalIsBehaviour : Type 0
+CanonicalIsBehaviour = (t : Task) → IsBehaviour t (canonical t).items (canonical t).end (canonical t).stop
+
+-- short of the limit there is a step or a stop
+abbrev pub GoesOnOrStops : Type 0
+GoesOnOrStops =
+    (t : Task) (c : Configuration) → ((step : Step) × (next : Configuration) × StepTo t c step next) ⊎ ((stop : Stop) × StopsAt t c stop)
+
+-- silent steps of two processes may be taken in either order
+abbrev pub SilentStepsCommute : Type 0
+SilentStepsCommute =
+    (t : Task) (c one two : Configuration) (p q : ℕ) (logged_p logged_q : Option Rational) → p ≢ q →
+    StepTo t c (Silent p logged_p) one → StepTo t c (Silent q logged_q) two →
+    (both : Configuration) × StepTo t one (Silent q logged_q) both × StepTo t two (Silent p logged_p) both
+
+-- a silent step and a communication that are both possible may be taken in either order
+abbrev pub SilentAndCommCommute : Type 0
+SilentAndCommCommute =
+    (t : Task) (c one two : Configuration) (p channel : ℕ) (logged : Option Rational) (value : Rational) →
+    StepTo t c (Silent p logged) one → StepTo t c (Comm channel value) two →
+    (both : Configuration) × StepTo t one (Comm channel value) both × StepTo t two (Silent p logged) both
+
+-- a delay makes no channel ready
+abbrev pub DelaysKeepQuiet : Type 0
+DelaysKeepQuiet = (t : Task) (c : Configuration) (d : Rational) → passing t c ≡ Some (Took d) → ready t (delayed d c) ≡ None
+
+-- an event is a piece of a run, and the stop that it sets holds at its end
+abbrev pub EventIsRun : Type 0
+EventIsRun =
+    (room : ℕ) (t : Task) (p : ℕ) (c : Configuration) (q : ProcessState) → slice_get c.processes p ≡ Some q →
+    let e = event room t p c in Leads t c e.items e.end × (length e.items ≤ room) × EndsWell t room (length e.items) e.end e.stop
