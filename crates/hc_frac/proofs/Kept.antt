@@ -5,7 +5,7 @@ use Rattle.std.proofs.lemmas.Int.{to_z-of_z, fits_signed_from_abs, ints}
 use Rattle.hc_rational.specs.Words.{Rational, IsFrac}
 use Rattle.hc_rational.specs.Code.{num-quotient, den-quotient}
 use Rattle.hc_frac.specs.declared.frac.Frac.TheInside.{Inside}
-use Rattle.hc_rational.proofs.FitsLaws.{is_frac}
+use Rattle.hc_rational.proofs.FitsLaws.{fits_from_parts}
 use Rattle.hc_frac.specs.Parts.{shown, AreLowest}
 
 pub num_seen : (f : Inside) (q : Rational) → shown f ≡ q → AreLowest f → f.num ≡ q.num
@@ -15,7 +15,7 @@ pub den_seen : (f : Inside) (q : Rational) → shown f ≡ q → AreLowest f →
 den_seen f q e h = sym (den-quotient f.num f.den h.above h.lowest) ∙ ap (λ r. r.den) e
 
 pub fits_seen : (f : Inside) (q : Rational) → shown f ≡ q → AreLowest f → IsFrac q
-fits_seen f q e h = is_frac q (rw (← num_seen f q e h) h.num_fits) (rw (← den_seen f q e h) h.den_fits)
+fits_seen f q e h = fits_from_parts q (rw (← num_seen f q e h) h.num_fits) (rw (← den_seen f q e h) h.den_fits)
 
 -- a signed number of 64 bits that is read again
 pub read_num : (n : ℤ) → unsigned_abs n < 2 ^ 63 → to_z w64 (of_z w64 n) ≡ n

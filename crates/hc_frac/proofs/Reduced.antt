@@ -24,7 +24,8 @@ top_is n d g h p = num-quotient_is n d p ∙ ap (λ k. int_div n (pos k)) (same_
 pub bottom_is : (n : ℤ) (d g : ℕ) → IsGcd (unsigned_abs n) d g → 0 < d → (quotient n d).den ≡ d / g
 bottom_is n d g h p = den-quotient_is n d p ∙ ap (λ k. d / k) (same_gcd (unsigned_abs n) d g h)
 
-pub magnitude_is : (n : ℤ) (d g : ℕ) → IsGcd (unsigned_abs n) d g → 0 < d → unsigned_abs (quotient n d).num ≡ unsigned_abs n / g
+pub magnitude_is : (n : ℤ) (d g : ℕ) → IsGcd (unsigned_abs n) d g → 0 < d →
+    unsigned_abs (quotient n d).num ≡ unsigned_abs n / g
 magnitude_is n d g h p = ap unsigned_abs (top_is n d g h p) ∙ abs-div n g
 
 -- the sign goes back before the quotient of the magnitudes
@@ -49,5 +50,6 @@ pub shown_from : (q : Rational) (f : Inside) → f.num ≡ q.num → f.den ≡ q
 shown_from q f n d = ap₂ quotient n d ∙ quotient-own q
 
 -- the magnitude of a number of 128 bits that is read again
-pub magnitude_of : (n : ℤ) (m : ℕ) → FitsSigned w128 n → m ≡ unsigned_abs (to_z w128 (of_z w128 n)) → m ≡ unsigned_abs n
+pub magnitude_of : (n : ℤ) (m : ℕ) → FitsSigned w128 n → m ≡ unsigned_abs (to_z w128 (of_z w128 n)) →
+    m ≡ unsigned_abs n
 magnitude_of n m f e = e ∙ ap unsigned_abs (to_z-of_z w128 n f)

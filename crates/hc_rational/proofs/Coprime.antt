@@ -12,7 +12,8 @@ coprime-dvd a b k p e h =
     let whole : gcd a b * k ≡ k = ap (λ g. g * k) e ∙ omega arith in
     subst (λ g. b ∣ g) whole ((gcd-mul_is a b k p).2 b h (dvd-mul_right b k))
 
-pub same_lowest : (a b c d : ℕ) → 0 < b → 0 < d → gcd a b ≡ 1 → gcd c d ≡ 1 → a * d ≡ c * b → (a ≡ c) × (b ≡ d)
+pub same_lowest : (a b c d : ℕ) → 0 < b → 0 < d → gcd a b ≡ 1 → gcd c d ≡ 1 → a * d ≡ c * b →
+    (a ≡ c) × (b ≡ d)
 same_lowest a b c d p q e f h =
     let first : b ∣ d = coprime-dvd a b d q e (subst (λ n. b ∣ n) (sym h) (dvd-mul_left b c)) in
     let second : d ∣ b = coprime-dvd c d b p f (subst (λ n. d ∣ n) h (dvd-mul_left d a)) in

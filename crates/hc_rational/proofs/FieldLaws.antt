@@ -77,7 +77,8 @@ pub +ℚ--ℚ : (q r : Rational) → (q +ℚ r) -ℚ r ≡ q
 -- ---- quotients
 
 -- (a - b) / e by a whole number of magnitude k and one sign
-kept_sign : (z : ℤ) (a b c e k : ℕ) → up z + b * e ≡ down z + a * e → up z * (c * (k * k)) + e * (b * k) * (c * k) ≡ e * (a * k) * (c * k) + down z * (c * (k * k))
+kept_sign : (z : ℤ) (a b c e k : ℕ) → up z + b * e ≡ down z + a * e →
+    up z * (c * (k * k)) + e * (b * k) * (c * k) ≡ e * (a * k) * (c * k) + down z * (c * (k * k))
 kept_sign z a b c e k h = omega (arith, ap (λ x. x * (c * (k * k))) h)
 
 scaled : (a : ℤ) (e : ℕ) → up (a *ℤ pos 1 *ℤ pos e) + down a * e ≡ down (a *ℤ pos 1 *ℤ pos e) + up a * e
@@ -91,7 +92,8 @@ turned a e =
     omega (arith, ints, ap (λ x. x * e) one.0, ap (λ x. x * e) one.1)
 
 -- q / (n / e), where n isn't 0
-divided-is : (q : Rational) (n : ℤ) (e : ℕ) → n ≢ pos 0 → IsQuotient (quotient (q.num *ℤ int_signum n *ℤ pos e) (q.den * unsigned_abs n)) (e * (up q.num * up n + down q.num * down n)) (e * (up q.num * down n + down q.num * up n)) (q.den * (up n * up n + down n * down n))
+divided-is : (q : Rational) (n : ℤ) (e : ℕ) → n ≢ pos 0 →
+    IsQuotient (quotient (q.num *ℤ int_signum n *ℤ pos e) (q.den * unsigned_abs n)) (e * (up q.num * up n + down q.num * down n)) (e * (up q.num * down n + down q.num * up n)) (q.den * (up n * up n + down n * down n))
 divided-is q (pos zero) e some = absurd (some refl)
 divided-is q (pos (suc k)) e some =
     let dens : 0 < q.den * suc k = mul-pos {m = q.den} {n = suc k} (den-pos q) (omega arith) in
@@ -124,7 +126,8 @@ one_sign : (z : ℤ) → up z * down z ≡ 0
 one_sign (pos n) = omega arith
 one_sign (negsuc n) = omega arith
 
-multiplied_back : (u w c U W e : ℕ) → U * W ≡ 0 → (e * (u * U + w * W) * U + e * (u * W + w * U) * W) * c + w * (c * (U * U + W * W) * e) ≡ u * (c * (U * U + W * W) * e) + (e * (u * U + w * W) * W + e * (u * W + w * U) * U) * c
+multiplied_back : (u w c U W e : ℕ) → U * W ≡ 0 →
+    (e * (u * U + w * W) * U + e * (u * W + w * U) * W) * c + w * (c * (U * U + W * W) * e) ≡ u * (c * (U * U + W * W) * e) + (e * (u * U + w * W) * W + e * (u * W + w * U) * U) * c
 multiplied_back u w c U W e h = omega (arith, ap (λ x. x * (e * u * c)) h, ap (λ x. x * (e * w * c)) h)
 
 pub zero-from_num : (q : Rational) → q.num ≡ pos 0 → q ≡ zero_ℚ

@@ -11,8 +11,8 @@ use Rattle.hc_rational.specs.Rational.{Rational, quotient, zero_ℚ, neg_ℚ}
 use Rattle.hc_rational.specs.Fits.{IsFrac}
 use Rattle.hc_rational.specs.Code.{den-pos, num-quotient_is, den-quotient_is}
 
-pub is_frac : (q : Rational) → unsigned_abs q.num < 2 ^ 63 → q.den < 2 ^ 63 → IsFrac q
-is_frac q n d = ap₂ ◌&&◌ (lt-ltb _ _ n) (lt-ltb _ _ d)
+pub fits_from_parts : (q : Rational) → unsigned_abs q.num < 2 ^ 63 → q.den < 2 ^ 63 → IsFrac q
+fits_from_parts q n d = ap₂ ◌&&◌ (lt-ltb _ _ n) (lt-ltb _ _ d)
 
 pub num_fits : (q : Rational) → IsFrac q → unsigned_abs q.num < 2 ^ 63
 num_fits q h = ltb-true _ _ (and_parts _ (nat_lt q.den (2 ^ 63)) h).0
@@ -24,7 +24,7 @@ den_fits q h = ltb-true _ _ (and_parts (nat_lt (unsigned_abs q.num) (2 ^ 63)) _ 
 pub quotient_fits : (z : ℤ) (d : ℕ) → 0 < d → unsigned_abs z < 2 ^ 63 → d < 2 ^ 63 → IsFrac (quotient z d)
 quotient_fits z d p top bottom =
     let num = ap unsigned_abs (num-quotient_is z d p) ∙ abs-div z (gcd (unsigned_abs z) d) in
-    is_frac (quotient z d)
+    fits_from_parts (quotient z d)
     (omega (arith, num, div-le_self (unsigned_abs z) (gcd (unsigned_abs z) d)))
     (omega (arith, den-quotient_is z d p, div-le_self d (gcd (unsigned_abs z) d)))
 

@@ -35,21 +35,24 @@ pub ≤ℚ-or-<ℚ : (q r : Rational) → (q ≤ℚ r) ⊎ (r <ℚ q)
 
 -- ---- chains
 
-le_chained : (u w c u' w' c' u'' w'' c'' : ℕ) → 0 < c' → u * c' + w' * c ≤ u' * c + w * c' → u' * c'' + w'' * c' ≤ u'' * c' + w' * c'' → u * c'' + w'' * c ≤ u'' * c + w * c''
+le_chained : (u w c u' w' c' u'' w'' c'' : ℕ) → 0 < c' → u * c' + w' * c ≤ u' * c + w * c' →
+    u' * c'' + w'' * c' ≤ u'' * c' + w' * c'' → u * c'' + w'' * c ≤ u'' * c + w * c''
 le_chained u w c u' w' c' u'' w'' c'' some h k =
     let first = mul-le-mul_right c'' h in
     let second = mul-le-mul_right c k in
     let both : (u * c'' + w'' * c) * c' ≤ (u'' * c + w * c'') * c' = omega (arith, first, second) in
     le_of_mul-le-mul_right both some
 
-lt_le_chained : (u w c u' w' c' u'' w'' c'' : ℕ) → 0 < c'' → u * c' + w' * c < u' * c + w * c' → u' * c'' + w'' * c' ≤ u'' * c' + w' * c'' → u * c'' + w'' * c < u'' * c + w * c''
+lt_le_chained : (u w c u' w' c' u'' w'' c'' : ℕ) → 0 < c'' → u * c' + w' * c < u' * c + w * c' →
+    u' * c'' + w'' * c' ≤ u'' * c' + w' * c'' → u * c'' + w'' * c < u'' * c + w * c''
 lt_le_chained u w c u' w' c' u'' w'' c'' some h k =
     let first = mul-lt-mul_of_pos_right h some in
     let second = mul-le-mul_right c k in
     let both : (u * c'' + w'' * c) * c' < (u'' * c + w * c'') * c' = omega (arith, first, second) in
     lt_of_mul-lt-mul_right c' both
 
-le_lt_chained : (u w c u' w' c' u'' w'' c'' : ℕ) → 0 < c → u * c' + w' * c ≤ u' * c + w * c' → u' * c'' + w'' * c' < u'' * c' + w' * c'' → u * c'' + w'' * c < u'' * c + w * c''
+le_lt_chained : (u w c u' w' c' u'' w'' c'' : ℕ) → 0 < c → u * c' + w' * c ≤ u' * c + w * c' →
+    u' * c'' + w'' * c' < u'' * c' + w' * c'' → u * c'' + w'' * c < u'' * c + w * c''
 le_lt_chained u w c u' w' c' u'' w'' c'' some h k =
     let first = mul-le-mul_right c'' h in
     let second = mul-lt-mul_of_pos_right k some in
@@ -129,10 +132,12 @@ pub *ℚ-<ℚ : (q r s : Rational) → zero_ℚ <ℚ s → q <ℚ r → q *ℚ s
 
 -- ---- there is always another
 
-halved : (u w c u' w' c' : ℕ) → 0 < c → u * c' + w' * c < u' * c + w * c' → u * (c * c' * 2) + (w * c' + w' * c) * c < (u * c' + u' * c) * c + w * (c * c' * 2)
+halved : (u w c u' w' c' : ℕ) → 0 < c → u * c' + w' * c < u' * c + w * c' →
+    u * (c * c' * 2) + (w * c' + w' * c) * c < (u * c' + u' * c) * c + w * (c * c' * 2)
 halved u w c u' w' c' some h = let wide = mul-lt-mul_of_pos_right h some in omega (arith, wide)
 
-halved_again : (u w c u' w' c' : ℕ) → 0 < c' → u * c' + w' * c < u' * c + w * c' → (u * c' + u' * c) * c' + w' * (c * c' * 2) < u' * (c * c' * 2) + (w * c' + w' * c) * c'
+halved_again : (u w c u' w' c' : ℕ) → 0 < c' → u * c' + w' * c < u' * c + w * c' →
+    (u * c' + u' * c) * c' + w' * (c * c' * 2) < u' * (c * c' * 2) + (w * c' + w' * c) * c'
 halved_again u w c u' w' c' some h = let wide = mul-lt-mul_of_pos_right h some in omega (arith, wide)
 
 pub between : (q r : Rational) → q <ℚ r → (s : Rational) × (q <ℚ s) × (s <ℚ r)

@@ -21,7 +21,8 @@ pub record IsQuotient (q : Rational) (p m d : ℕ) : Type 0 where
 pub own : (q : Rational) → IsQuotient q (up q.num) (down q.num) q.den
 own q = record { above = den-pos q; same = refl }
 
-pub rewritten : {q : Rational} {p m d p' m' d' : ℕ} → IsQuotient q p m d → 0 < d' → p * d' + m' * d ≡ p' * d + m * d' → IsQuotient q p' m' d'
+pub rewritten : {q : Rational} {p m d p' m' d' : ℕ} → IsQuotient q p m d → 0 < d' →
+    p * d' + m' * d ≡ p' * d + m * d' → IsQuotient q p' m' d'
 rewritten {q} {p} {m} {d} {p'} {m'} {d'} h above e = record {
   above = above;
   same = chained (up q.num) (down q.num) q.den p m d p' m' d' h.above h.same e;
@@ -29,13 +30,15 @@ rewritten {q} {p} {m} {d} {p'} {m'} {d'} h above e = record {
 
 -- ---- equal quotients are equal rationals
 
-same_parts : (a b : ℤ) (c d : ℕ) → 0 < c → 0 < d → gcd (unsigned_abs a) c ≡ 1 → gcd (unsigned_abs b) d ≡ 1 → up a * d + down b * c ≡ up b * c + down a * d → (a ≡ b) × (c ≡ d)
+same_parts : (a b : ℤ) (c d : ℕ) → 0 < c → 0 < d → gcd (unsigned_abs a) c ≡ 1 →
+    gcd (unsigned_abs b) d ≡ 1 → up a * d + down b * c ≡ up b * c + down a * d → (a ≡ b) × (c ≡ d)
 same_parts (pos a) (pos b) c d p q e f h = let s = same_lowest a c b d p q e f (omega arith) in (ap pos s.0, s.1)
 same_parts (pos a) (negsuc b) c d p q e f h = absurd (omega (arith, mul-pos {m = suc b} {n = c} (omega arith) p))
 same_parts (negsuc a) (pos b) c d p q e f h = absurd (omega (arith, mul-pos {m = suc a} {n = d} (omega arith) q))
 same_parts (negsuc a) (negsuc b) c d p q e f h = let s = same_lowest (suc a) c (suc b) d p q e f (omega arith) in (ap neg_ℤ (ap pos s.0), s.1)
 
-pub same_quotients : {q r : Rational} {p m d p' m' d' : ℕ} → IsQuotient q p m d → IsQuotient r p' m' d' → p * d' + m' * d ≡ p' * d + m * d' → q ≡ r
+pub same_quotients : {q r : Rational} {p m d p' m' d' : ℕ} → IsQuotient q p m d → IsQuotient r p' m' d' →
+    p * d' + m' * d ≡ p' * d + m * d' → q ≡ r
 same_quotients {q} {r} {p} {m} {d} {p'} {m'} {d'} h k e =
     let first : IsQuotient q p' m' d' = rewritten h k.above e in
     let cross = chained (up q.num) (down q.num) q.den p' m' d' (up r.num) (down r.num) r.den k.above first.same (omega (arith, k.same)) in
@@ -73,17 +76,20 @@ unfolding one_ℚ
 one-is = whole-is (pos 1)
 
 -- the numerator of a sum, over natural numbers
-sum_parts : (a b : ℤ) (d c : ℕ) → up (a *ℤ pos d +ℤ b *ℤ pos c) + (down a * d + down b * c) ≡ down (a *ℤ pos d +ℤ b *ℤ pos c) + (up a * d + up b * c)
+sum_parts : (a b : ℤ) (d c : ℕ) →
+    up (a *ℤ pos d +ℤ b *ℤ pos c) + (down a * d + down b * c) ≡ down (a *ℤ pos d +ℤ b *ℤ pos c) + (up a * d + up b * c)
 sum_parts a b d c = omega (arith, ints)
 
-pub add-is : {q r : Rational} {p m d p' m' d' : ℕ} → IsQuotient q p m d → IsQuotient r p' m' d' → IsQuotient (q +ℚ r) (p * d' + p' * d) (m * d' + m' * d) (d * d')
+pub add-is : {q r : Rational} {p m d p' m' d' : ℕ} → IsQuotient q p m d → IsQuotient r p' m' d' →
+    IsQuotient (q +ℚ r) (p * d' + p' * d) (m * d' + m' * d) (d * d')
 unfolding ◌+ℚ◌
 add-is {q} {r} {p} {m} {d} {p'} {m'} {d'} h k =
     let made = quotient-is (q.num *ℤ pos r.den +ℤ r.num *ℤ pos q.den) (q.den * r.den) (mul-pos (den-pos q) (den-pos r)) in
     rewritten made (mul-pos h.above k.above)
     (sums (up q.num) (down q.num) q.den p m d (up r.num) (down r.num) r.den p' m' d' _ _ h.same k.same (sum_parts q.num r.num r.den q.den))
 
-pub mul-is : {q r : Rational} {p m d p' m' d' : ℕ} → IsQuotient q p m d → IsQuotient r p' m' d' → IsQuotient (q *ℚ r) (p * p' + m * m') (p * m' + m * p') (d * d')
+pub mul-is : {q r : Rational} {p m d p' m' d' : ℕ} → IsQuotient q p m d → IsQuotient r p' m' d' →
+    IsQuotient (q *ℚ r) (p * p' + m * m') (p * m' + m * p') (d * d')
 unfolding ◌*ℚ◌
 mul-is {q} {r} {p} {m} {d} {p'} {m'} {d'} h k =
     let made = quotient-is (q.num *ℤ r.num) (q.den * r.den) (mul-pos (den-pos q) (den-pos r)) in
@@ -98,7 +104,8 @@ neg-is {q} {p} {m} {d} h =
     let parts = neg_is q.num in
     rewritten made h.above (rw (parts.0, parts.1) (omega (arith, h.same)))
 
-pub sub-is : {q r : Rational} {p m d p' m' d' : ℕ} → IsQuotient q p m d → IsQuotient r p' m' d' → IsQuotient (q -ℚ r) (p * d' + m' * d) (m * d' + p' * d) (d * d')
+pub sub-is : {q r : Rational} {p m d p' m' d' : ℕ} → IsQuotient q p m d → IsQuotient r p' m' d' →
+    IsQuotient (q -ℚ r) (p * d' + m' * d) (m * d' + p' * d) (d * d')
 sub-is {q} {r} h k = rw (difference-is q r) (add-is h (neg-is k))
 
 pub some_quotient : (p m d : ℕ) → 0 < d → (q : Rational) × IsQuotient q p m d
@@ -110,22 +117,26 @@ some_quotient p m d above =
 
 -- ---- orders
 
-pub le-from : {q r : Rational} {p m d p' m' d' : ℕ} → IsQuotient q p m d → IsQuotient r p' m' d' → p * d' + m' * d ≤ p' * d + m * d' → q ≤ℚ r
+pub le-from : {q r : Rational} {p m d p' m' d' : ℕ} → IsQuotient q p m d → IsQuotient r p' m' d' →
+    p * d' + m' * d ≤ p' * d + m * d' → q ≤ℚ r
 le-from {q} {r} {p} {m} {d} {p'} {m'} {d'} h k e =
     let cross = same_le (up q.num) (down q.num) q.den p m d (up r.num) (down r.num) r.den p' m' d' h.above k.above h.same k.same e in
     record { le = omega (arith, ints, cross) }
 
-pub le-to : {q r : Rational} {p m d p' m' d' : ℕ} → IsQuotient q p m d → IsQuotient r p' m' d' → q ≤ℚ r → p * d' + m' * d ≤ p' * d + m * d'
+pub le-to : {q r : Rational} {p m d p' m' d' : ℕ} → IsQuotient q p m d → IsQuotient r p' m' d' → q ≤ℚ r →
+    p * d' + m' * d ≤ p' * d + m * d'
 le-to {q} {r} {p} {m} {d} {p'} {m'} {d'} h k e =
     let cross : up q.num * r.den + down r.num * q.den ≤ up r.num * q.den + down q.num * r.den = omega (arith, ints, e.le) in
     same_le p m d (up q.num) (down q.num) q.den p' m' d' (up r.num) (down r.num) r.den (den-pos q) (den-pos r) (omega (arith, h.same)) (omega (arith, k.same)) cross
 
-pub lt-from : {q r : Rational} {p m d p' m' d' : ℕ} → IsQuotient q p m d → IsQuotient r p' m' d' → p * d' + m' * d < p' * d + m * d' → q <ℚ r
+pub lt-from : {q r : Rational} {p m d p' m' d' : ℕ} → IsQuotient q p m d → IsQuotient r p' m' d' →
+    p * d' + m' * d < p' * d + m * d' → q <ℚ r
 lt-from {q} {r} {p} {m} {d} {p'} {m'} {d'} h k e =
     let cross = same_lt (up q.num) (down q.num) q.den p m d (up r.num) (down r.num) r.den p' m' d' (den-pos q) (den-pos r) h.same k.same e in
     record { lt = omega (arith, ints, cross) }
 
-pub lt-to : {q r : Rational} {p m d p' m' d' : ℕ} → IsQuotient q p m d → IsQuotient r p' m' d' → q <ℚ r → p * d' + m' * d < p' * d + m * d'
+pub lt-to : {q r : Rational} {p m d p' m' d' : ℕ} → IsQuotient q p m d → IsQuotient r p' m' d' → q <ℚ r →
+    p * d' + m' * d < p' * d + m * d'
 lt-to {q} {r} {p} {m} {d} {p'} {m'} {d'} h k e =
     let cross : up q.num * r.den + down r.num * q.den < up r.num * q.den + down q.num * r.den = omega (arith, ints, e.lt) in
     same_lt p m d (up q.num) (down q.num) q.den p' m' d' (up r.num) (down r.num) r.den h.above k.above (omega (arith, h.same)) (omega (arith, k.same)) cross

@@ -17,7 +17,9 @@ use Rattle.hc_rational.proofs.OrderLaws.{≤ℚ_refl, <ℚ_irrefl, ≤ℚ-from_<
 pub cross_equal : (q r : Rational) → q.num *ℤ pos r.den ≡ r.num *ℤ pos q.den → q ≡ r
 cross_equal q r e = same_quotients (own q) (own r) (omega (arith, ints, e))
 
-matched : (q r : Rational) (o : Ordering) → MatchOrdering o ((q.num *ℤ pos r.den) <ℤ (r.num *ℤ pos q.den)) (q.num *ℤ pos r.den ≡ r.num *ℤ pos q.den) ((r.num *ℤ pos q.den) <ℤ (q.num *ℤ pos r.den)) → MatchOrdering o (q <ℚ r) (q ≡ r) (r <ℚ q)
+matched : (q r : Rational) (o : Ordering) →
+    MatchOrdering o ((q.num *ℤ pos r.den) <ℤ (r.num *ℤ pos q.den)) (q.num *ℤ pos r.den ≡ r.num *ℤ pos q.den) ((r.num *ℤ pos q.den) <ℤ (q.num *ℤ pos r.den)) →
+    MatchOrdering o (q <ℚ r) (q ≡ r) (r <ℚ q)
 matched q r Less h = record { lt = h }
 matched q r Equal h = cross_equal q r h
 matched q r Greater h = record { lt = h }
@@ -79,7 +81,8 @@ is_positive_is q = (
 
 -- ---- the lesser and the greater
 
-lesser_at : (q r : Rational) (o : Ordering) → MatchOrdering o (q <ℚ r) (q ≡ r) (r <ℚ q) → IsLesser q r (by_rank o q r)
+lesser_at : (q r : Rational) (o : Ordering) → MatchOrdering o (q <ℚ r) (q ≡ r) (r <ℚ q) →
+    IsLesser q r (by_rank o q r)
 lesser_at q r Less h = record { first = ≤ℚ_refl q; second = ≤ℚ-from_<ℚ q r h; one = inl refl }
 lesser_at q r Equal h = record { first = ≤ℚ_refl q; second = ≤ℚ-from_≡ q r h; one = inl refl }
 lesser_at q r Greater h = record { first = ≤ℚ-from_<ℚ r q h; second = ≤ℚ_refl r; one = inr refl }
@@ -87,7 +90,8 @@ lesser_at q r Greater h = record { first = ≤ℚ-from_<ℚ r q h; second = ≤�
 pub lesser_is : (q r : Rational) → IsLesser q r (lesser q r)
 lesser_is q r = lesser_at q r (rank q r) (rank_matches q r)
 
-greater_at : (q r : Rational) (o : Ordering) → MatchOrdering o (q <ℚ r) (q ≡ r) (r <ℚ q) → IsGreater q r (by_rank o r q)
+greater_at : (q r : Rational) (o : Ordering) → MatchOrdering o (q <ℚ r) (q ≡ r) (r <ℚ q) →
+    IsGreater q r (by_rank o r q)
 greater_at q r Less h = record { first = ≤ℚ-from_<ℚ q r h; second = ≤ℚ_refl r; one = inr refl }
 greater_at q r Equal h = record { first = ≤ℚ-from_≡ q r h; second = ≤ℚ_refl r; one = inr refl }
 greater_at q r Greater h = record { first = ≤ℚ_refl q; second = ≤ℚ-from_<ℚ r q h; one = inl refl }

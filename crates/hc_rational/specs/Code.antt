@@ -10,7 +10,8 @@ use Rattle.hc_rational.specs.Rational.{Rational, quotient}
 made : (n : ℤ) (d : ℕ) → T (nat_lt 0 d) → T (gcd (unsigned_abs n) d == 1) → Rational
 made n d p l = record { num = n; den = d; positive = p; lowest = l }
 
-same_made : (n : ℤ) (d : ℕ) (p p' : T (nat_lt 0 d)) (l l' : T (gcd (unsigned_abs n) d == 1)) → made n d p l ≡ made n d p' l'
+same_made : (n : ℤ) (d : ℕ) (p p' : T (nat_lt 0 d)) (l l' : T (gcd (unsigned_abs n) d == 1)) →
+    made n d p l ≡ made n d p' l'
 same_made n d p p' l l' = ap (λ x. made n d x l) (T_prop _ p p') ∙ ap (made n d p') (T_prop _ l l')
 
 -- rationals with equal parts are equal

@@ -6,5 +6,6 @@ use Rattle.hc_rational.specs.Rational.{Rational}
 abbrev pub fits : Rational → Bool
 fits q = nat_lt (unsigned_abs q.num) (2 ^ 63) && nat_lt q.den (2 ^ 63)
 
+-- q is a fraction that fits
 abbrev pub IsFrac : Rational → Type 0
 IsFrac q = IsTrue (fits q)

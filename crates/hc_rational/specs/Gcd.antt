@@ -1,7 +1,7 @@
 -- The greatest common divisor, as Euclid finds it.
 use Rattle.std.specs.Prelude.{ℕ, zero, suc, ◌%◌}
 
--- the same, in at most as many steps as the first number says
+-- what Euclid's divisions of a by b end with, after so many steps at most
 unfoldable pub gcd_within : ℕ → ℕ → ℕ → ℕ
 gcd_within zero a b = a
 gcd_within (suc steps) a zero = a

@@ -75,7 +75,8 @@ pub abs-div : (z : ℤ) (g : ℕ) → unsigned_abs (int_div z (pos g)) ≡ unsig
 abs-div (pos n) g = refl
 abs-div (negsuc n) g = abs-neg (suc n / g)
 
-pub quotient-lowest : (z : ℤ) (d : ℕ) → 0 < d → gcd (unsigned_abs (int_div z (pos (gcd (unsigned_abs z) d)))) (d / gcd (unsigned_abs z) d) ≡ 1
+pub quotient-lowest : (z : ℤ) (d : ℕ) → 0 < d →
+    gcd (unsigned_abs (int_div z (pos (gcd (unsigned_abs z) d)))) (d / gcd (unsigned_abs z) d) ≡ 1
 quotient-lowest z d p = ap (λ n. gcd n (d / gcd (unsigned_abs z) d)) (abs-div z (gcd (unsigned_abs z) d)) ∙ gcd-lowest (unsigned_abs z) d p
 
 pub whole-lowest : (z : ℤ) → gcd (unsigned_abs z) 1 ≡ 1

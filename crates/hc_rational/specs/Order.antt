@@ -50,11 +50,14 @@ pub record IsGreater (q r s : Rational) : Type 0 where
   pub second : r ≤ℚ s
   pub one : (s ≡ q) ⊎ (s ≡ r)
 
+-- whether q is 0
 abbrev pub is_zero : Rational → Bool
 is_zero q = unsigned_abs q.num == 0
 
+-- whether q is less than 0
 abbrev pub is_negative : Rational → Bool
 is_negative q = int_lt q.num (pos 0)
 
+-- whether q is greater than 0
 abbrev pub is_positive : Rational → Bool
 is_positive q = int_lt (pos 0) q.num

@@ -34,27 +34,32 @@ quotient z (suc k) = record {
   lowest = pass_eq _ _ (quotient-lowest z (suc k) (some-suc k));
 }
 
--- n / d, and 0 where d is 0
+-- n / d with the sign of both, and 0 where d is 0
 unfoldable pub ratio : ℤ → ℤ → Rational
 unfolding quotient
 ratio n d = quotient (n *ℤ int_signum d) (unsigned_abs d)
 
+-- the number 0
 unfoldable pub zero_ℚ : Rational
 unfolding whole
 zero_ℚ = whole (pos 0)
 
+-- the number 1
 unfoldable pub one_ℚ : Rational
 unfolding whole
 one_ℚ = whole (pos 1)
 
+-- the sum
 unfoldable pub ◌+ℚ◌ : Rational → Rational → Rational
 unfolding quotient
 q +ℚ r = quotient (q.num *ℤ pos r.den +ℤ r.num *ℤ pos q.den) (q.den * r.den)
 
+-- the number with the other sign
 unfoldable pub neg_ℚ : Rational → Rational
 unfolding quotient
 neg_ℚ q = quotient (neg_ℤ q.num) q.den
 
+-- the difference
 unfoldable pub ◌-ℚ◌ : Rational → Rational → Rational
 unfolding ◌+ℚ◌ neg_ℚ
 q -ℚ r = q +ℚ neg_ℚ r
@@ -63,6 +68,7 @@ pub difference-is : (q r : Rational) → q -ℚ r ≡ q +ℚ neg_ℚ r
 unfolding ◌-ℚ◌
 difference-is q r = refl
 
+-- the product
 unfoldable pub ◌*ℚ◌ : Rational → Rational → Rational
 unfolding quotient
 q *ℚ r = quotient (q.num *ℤ r.num) (q.den * r.den)

@@ -5,7 +5,7 @@ use Rattle.std.proofs.lemmas.Int.{ints}
 use Rattle.hc_rational.specs.Words.{quotient, IsFrac}
 use Rattle.hc_frac.proofs.Reduced.{divisor-pos, top_is, bottom_is, magnitude_is, below_zero, from_zero, lowest_from, shown_from, magnitude_of}
 use Rattle.hc_frac.proofs.frac.reduced.Goals as goal
-use Rattle.hc_rational.proofs.FitsLaws.{den_fits, is_frac, num_fits}
+use Rattle.hc_rational.proofs.FitsLaws.{den_fits, fits_from_parts, num_fits}
 use Rattle.hc_frac.proofs.frac.reduced.Goals.{then-n-lt0, else-n-lt0, then-top-ge-LIMIT-via-then-top-ge-LIMIT, then-top-ge-LIMIT-via-else-top-ge-LIMIT+then-bottom-ge-LIMIT}
 
 pub nonzero_div-top : goal.nonzero_div-top
@@ -48,7 +48,7 @@ module _ (c : goal.Joined-n-lt0) where
   fits : IsFrac (quotient c.args.n c.args.d)
   fits =
       let magnitude = magnitude_is c.args.n c.args.d _ divides c.requires in
-      is_frac (quotient c.args.n c.args.d) (omega (arith, magnitude, quotients)) (omega (arith, bottom))
+      fits_from_parts (quotient c.args.n c.args.d) (omega (arith, magnitude, quotients)) (omega (arith, bottom))
 
 pub invariant_of-result : goal.invariant_of-result
 invariant_of-result c = lowest_from (quotient c.args.n c.args.d) _ (top c) (bottom c) (fits c)

@@ -1,0 +1,4 @@
+pub mod Waiting
+pub mod States
+pub mod Turns
+pub mod Runs

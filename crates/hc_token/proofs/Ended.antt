@@ -1,0 +1,105 @@
+-- The tokens of a text end once.
+use Rattle.std.proofs.Common.{◌≡◌, ◌≢◌, ℕ, zero, suc, ◌+◌, ◌-◌, true, false, Bool, List, [], ◌∷◌, ◌++◌, length, drop, Option, None, Some, refl, sym, ap, ◌∙◌, nat_eq}
+use Rattle.std.specs.Prelude.{IfSome, ◌==◌, nat_lt, take_while, slice_index, find}
+use Rattle.std.specs.Char.{is_ascii_alphabetic, is_ascii_digit}
+use Rattle.std.specs.List.{starts_with, prefix_len}
+use Rattle.std.specs.Cmp.Lexicographic.{pointwise}
+use Rattle.std.specs.Str.Parse.{digits_value}
+use Rattle.std.proofs.lemmas.Bool.{false≢true}
+use Rattle.hc_frac.specs.declared.place.Place.{Place}
+use Rattle.hc_frac.specs.Word.{word_byte}
+use Rattle.hc_token.specs.declared.kind.Kind.{Kind}
+use Rattle.hc_token.specs.declared.kind.Kind.TheVariants as k
+use Rattle.hc_token.specs.declared.token.Content.TheVariants as says
+use Rattle.hc_token.specs.declared.token.Token.{Token}
+use Rattle.hc_token.specs.declared.piece.Piece.{Piece}
+use Rattle.hc_token.specs.Kinds.{Spelled, keywords, signs, keyword, sign}
+use Rattle.hc_token.specs.Words.{Lexeme, word, short_word, before_dot, is_name, ends_in_dot, front_of}
+use Rattle.hc_token.specs.Numbers.{front_digits, places_digits, number_of, in_range, ranged}
+use Rattle.hc_token.specs.Pieces.{is_blank, in_comment, gap, word_piece, number_piece, sign_piece, piece}
+use Rattle.hc_token.specs.Tokens.{after, token_at, with_piece, tokens_from, AreEnded}
+use Rattle.hc_token.proofs.Found.{either, found_passes, mapped}
+
+-- whether a kind isn't that of the end
+abbrev pub goes_on : Kind → Bool
+goes_on k.End = false
+goes_on kind = true
+
+not_end : (kind : Kind) → goes_on kind ≡ true → kind ≢ k.End
+not_end kind h e = false≢true (sym (ap goes_on e) ∙ h)
+
+-- a token is no end
+abbrev pub GoesOn : Option Lexeme → Type 0
+GoesOn o = IfSome o (λ l. goes_on l.0 ≡ true)
+
+keyword_goes_on : (w : List ℕ) → IfSome (keyword w) (λ kind. goes_on kind ≡ true)
+unfolding keyword keywords
+keyword_goes_on w =
+    let same : Spelled → Bool = λ s. pointwise nat_eq s.0 w in
+    let found = found_passes same (λ s. goes_on s.1) keywords refl in
+    mapped (λ s. s.1) (λ kind. goes_on kind ≡ true) (find same keywords) found
+
+short_goes_on : (o : Option Kind) (w : List ℕ) → IfSome o (λ kind. goes_on kind ≡ true)
+    → goes_on (short_word o w).0 ≡ true
+short_goes_on (Some kind) w h = h
+short_goes_on None w h =
+    let P : Lexeme → Type 0 = λ l. goes_on l.0 ≡ true in
+    let front = front_of w in
+    either P (ends_in_dot w) (before_dot front) (k.Name, says.Name w)
+    (either P (is_name front) (k.Rate, says.Name front) (k.Other, says.Plain) refl refl) refl
+
+word_goes_on : (w : List ℕ) → goes_on (word w).0 ≡ true
+unfolding word
+word_goes_on w =
+    let P : Lexeme → Type 0 = λ l. goes_on l.0 ≡ true in
+    let short = short_goes_on (keyword w) w (keyword_goes_on w) in
+    either P (nat_lt 64 (length w)) (k.LongWord, says.Plain) (short_word (keyword w) w) refl short
+
+ranged_goes_on : (digits places : ℕ) (fits : Bool) (e : in_range digits places ≡ fits)
+    → goes_on (ranged digits places fits e).0 ≡ true
+ranged_goes_on digits places true e = refl
+ranged_goes_on digits places false e = refl
+
+number_goes_on : (digits places : ℕ) → goes_on (number_of digits places).0 ≡ true
+unfolding number_of
+number_goes_on digits places = ranged_goes_on digits places (in_range digits places) refl
+
+sign_goes_on : (o : Option (Kind × ℕ)) → IfSome o (λ s. goes_on s.0 ≡ true) → GoesOn (sign_piece o).lexeme
+sign_goes_on None h = refl
+sign_goes_on (Some s) h = h
+
+found_goes_on : (z : List ℕ) → IfSome (sign z) (λ s. goes_on s.0 ≡ true)
+unfolding sign signs
+found_goes_on z =
+    let fits : Spelled → Bool = λ s. starts_with nat_eq z s.0 in
+    let found = found_passes fits (λ s. goes_on s.1) signs refl in
+    mapped (λ s. (s.1, length s.0)) (λ s. goes_on s.0 ≡ true) (find fits signs) found
+
+pub piece_goes_on : (z : List ℕ) → GoesOn (piece z).lexeme
+unfolding piece
+piece_goes_on z =
+    let P : Piece → Type 0 = λ q. GoesOn q.lexeme in
+    let b = slice_index z 0 in
+    let w = take_while word_byte z in
+    let number = number_goes_on (digits_value 10 (front_digits z ++ places_digits z)) (length (places_digits z)) in
+    either P (is_blank b) (gap 1) _ tt
+    (either P (b == 35) (gap (1 + prefix_len in_comment (drop 1 z))) _ tt
+    (either P (is_ascii_alphabetic b) (word_piece w) _ (word_goes_on w)
+    (either P (is_ascii_digit b) (number_piece z) (sign_piece (sign z)) number
+    (sign_goes_on (sign z) (found_goes_on z)))))
+
+ends_later : (t : Token) (ts : List Token) → t.kind ≢ k.End → AreEnded ts → AreEnded (t ∷ ts)
+ends_later t [] n e = absurd e
+ends_later t (u ∷ us) n e = (n, e)
+
+with_piece_ends : (p : Place) (o : Option Lexeme) (ts : List Token) → GoesOn o → AreEnded ts
+    → AreEnded (with_piece p o ts)
+with_piece_ends p None ts h e = e
+with_piece_ends p (Some l) ts h e = ends_later (token_at p l) ts (not_end l.0 h) e
+
+pub tokens_end : (n : ℕ) (p : Place) (z : List ℕ) → AreEnded (tokens_from n p z)
+tokens_end n p [] = refl
+tokens_end (suc n) p (b ∷ z) = tokens_end n (after p b) z
+tokens_end zero p (b ∷ z) =
+    with_piece_ends p (piece (b ∷ z)).lexeme (tokens_from ((piece (b ∷ z)).len - 1) (after p b) z)
+    (piece_goes_on (b ∷ z)) (tokens_end ((piece (b ∷ z)).len - 1) (after p b) z)

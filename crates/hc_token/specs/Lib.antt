@@ -1,0 +1,6 @@
+pub mod Kinds
+pub mod Words
+pub mod Numbers
+pub mod Pieces
+pub mod Tokens
+pub mod Scanning

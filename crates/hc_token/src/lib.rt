@@ -1,0 +1,13 @@
+//! The tokens of the source language, read from a text one by one.
+#![tactic(auto)]
+
+mod kind;
+mod number;
+mod piece;
+mod scanner;
+mod token;
+mod word;
+
+pub use kind::Kind;
+pub use scanner::Scanner;
+pub use token::{Content, Token};

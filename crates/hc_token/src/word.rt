@@ -1,0 +1,56 @@
+//! Words.
+
+ghost use Rattle.std.specs.Prelude.{◌≡◌, length, IsTrue, slice_index};
+ghost use Rattle.std.specs.List.{list_all};
+ghost use Rattle.std.specs.Char.{is_ascii_alphabetic};
+ghost use Rattle.hc_frac.specs.Word.{IsWord, word_byte};
+ghost use Rattle.hc_token.specs.Words as spec;
+
+use crate::kind::{Kind, keyword};
+use crate::token::Content;
+use hc_frac::Name;
+
+const LONGEST_WORD: usize = 64;
+
+const RATE_ENDING: &[u8; 4] = b"_dot";
+
+/// What a word is, and what it says.
+#[tactic(auto, unfolding(crate::specs::Words::word))]
+pub(crate) fn word(word: &[u8]) -> (Kind, Content)
+    requires letter_first { IsTrue (is_ascii_alphabetic (slice_index word.now 0)) }
+    requires all { IsTrue (list_all word_byte word.now) }
+    ensures { result ≡ spec.word word.now }
+{
+    if word.len() > LONGEST_WORD {
+        return (Kind::LongWord, Content::Plain);
+    }
+    if let Some(kind) = keyword(word) {
+        return (kind, Content::Plain);
+    }
+    if !word.ends_with(RATE_ENDING) {
+        return (Kind::Name, named(word));
+    }
+    let front = &word[..word.len() - RATE_ENDING.len()];
+    if is_name(front) {
+        (Kind::Rate, named(front))
+    } else {
+        (Kind::Other, Content::Plain)
+    }
+}
+
+#[tactic(auto, unfolding(crate::specs::Words::is_name))]
+fn is_name(word: &[u8]) -> bool
+    ensures { result ≡ spec.is_name word.now }
+{
+    keyword(word).is_none() && !word.ends_with(RATE_ENDING)
+}
+
+fn named(name: &[u8]) -> Content
+    requires { IsWord name.now }
+    ensures { result ≡ Content.Name name.now }
+{
+    match Name::new(name) {
+        Some(name) => Content::Name(name),
+        None => unreachable!(),
+    }
+}

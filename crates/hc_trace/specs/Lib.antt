@@ -1,0 +1,3 @@
+pub mod InRange
+pub mod Visible
+pub use Rattle.hc_term.specs.TraceText

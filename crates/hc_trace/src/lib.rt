@@ -1,0 +1,6 @@
+//! The text of a run: its header, a line for each visible step, and the end line.
+#![tactic(auto)]
+
+mod lines;
+
+pub use lines::{HEADER, end_line, event_line, header};

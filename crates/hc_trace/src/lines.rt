@@ -1,0 +1,97 @@
+//! The lines of a run's text.
+ghost use Rattle.std.specs.Prelude.{◌≡◌, ◌<◌, ◌≤◌, ◌↔◌, ◌+◌, ◌∷◌, ◌++◌, length, map, IsSome, IfSome, IsTrue};
+ghost use Rattle.arrayvec.specs.ArrayString.{array_string_len};
+ghost use Rattle.hc_term.specs.TraceText.{words, line_of_step};
+ghost use Rattle.hc_term.specs.TraceText as spec;
+ghost use Rattle.hc_trace.specs.InRange.{StepInRange, StopInRange};
+ghost use Rattle.hc_trace.specs.Visible.{is_visible};
+
+use arrayvec::ArrayString;
+use hc_frac::Frac;
+use hc_term::{Item, Step, Stop, System};
+
+/// The first line, with its newline.
+pub const HEADER: &[u8] = b"hcsp-trace 1\n";
+
+/// `HEADER`, for contracts.
+pub fn header() -> &'static [u8]
+    ensures { result.now ≡ spec.header }
+{
+    HEADER
+}
+
+/// The line of a step, with its newline, or `None` for a silent step that logs nothing.
+pub fn event_line(system: &System, item: &Item) -> Option<ArrayString<256>>
+    requires { StepInRange system.now item.now.step }
+    ensures visible { IsSome result ↔ IsTrue (is_visible item.now.step) }
+    ensures line { IfSome result (λ line. line.bytes ≡ line_of_step system.now item.now.at item.now.step) }
+{
+    let clock = item.at.text();
+    let line = match item.step {
+        Step::Silent { logged: None, .. } => return None,
+        Step::Silent {
+            process,
+            logged: Some(value),
+        } => {
+            let name = process_name(system, process);
+            line_of(clock.as_str(), &["log", name, value.text().as_str()])
+        }
+        Step::Comm { channel, value } => {
+            let name = system.channels.as_slice()[channel as usize].text();
+            line_of(clock.as_str(), &["comm", name, value.text().as_str()])
+        }
+        Step::Delay { by } => line_of(clock.as_str(), &["delay", by.text().as_str()]),
+    };
+    Some(line)
+}
+
+/// The last line, with its newline: how the run stops, and the clock reached.
+pub fn end_line(system: &System, stop: Stop, clock: Frac) -> ArrayString<256>
+    requires { StopInRange system.now stop }
+    ensures { result.bytes ≡ spec.end_line system.now clock stop }
+{
+    let clock = clock.text();
+    let clock = clock.as_str();
+    match stop {
+        Stop::Terminated => line_of("end", &["terminated", clock]),
+        Stop::Deadlock => line_of("end", &["deadlock", clock]),
+        Stop::Horizon => line_of("end", &["horizon", clock]),
+        Stop::Limit => line_of("end", &["limit", clock]),
+        Stop::Overflow { process: None } => line_of("end", &["overflow", clock, "*"]),
+        Stop::Overflow {
+            process: Some(process),
+        } => { line_of("end", &["overflow", clock, process_name(system, process)]) }
+    }
+}
+
+/// The name of the process with this number.
+fn process_name(system: &System, process: u32) -> &str
+    requires { process < length system.now.processes }
+    ensures name { result.now ≡ spec.process_name system.now process }
+    ensures short { length result.now ≤ 64 }
+{
+    system.processes.as_slice()[process as usize].name.text()
+}
+
+/// The line of these words.
+fn line_of(first: &str, rest: &[&str]) -> ArrayString<256>
+    requires { length (words (first.now ∷ map (λ w. w.now) rest.now)) ≤ 256 }
+    ensures { result.bytes ≡ words (first.now ∷ map (λ w. w.now) rest.now) }
+{
+    let mut line = ArrayString::new();
+    line.push_str(first);
+    for word in rest {
+        push_word(&mut line, word);
+    }
+    line.push('\n');
+    line
+}
+
+/// Appends a space and a word.
+fn push_word(line: &mut ArrayString<256>, word: &str)
+    requires { array_string_len line.old + 1 + length word.now ≤ 256 }
+    ensures { line.new.bytes ≡ line.old.bytes ++ 32 ∷ word.now }
+{
+    line.push(' ');
+    line.push_str(word);
+}
