@@ -16,7 +16,7 @@ use Rattle.hc_term.specs.Step.{ready, passing, silent_of, replaced, met, delayed
 use Rattle.hc_term.specs.Event.{Progress, progress, Event, still, event_after, stop_of_passing, stop_after, last_part_by, meetings_by, meetings, second_part, silent_items, event_by, event_of, EndsWell}
 use Rattle.hc_term.specs.Laws.{EventIsRun}
 use Rattle.hc_term.proofs.Ready.{ready-steps}
-use Rattle.hc_term.proofs.Turns.{ended_by-stops}
+use Rattle.hc_term.proofs.Turns.{ended_by-stops, leads_on}
 use Rattle.hc_term.proofs.Stretches.{Stretches, progress-stretches}
 
 -- the event is a piece of a run from c where there is room for so many steps
@@ -60,10 +60,6 @@ ends_later : (t : Task) (k n m : ℕ) (end : Configuration) (stop : Option Stop)
 ends_later t k n m end None h = omega (arith, h)
 ends_later t k n m end (Some stop) (inl h) = inl (ap (λ i. k + i) h.0, h.1)
 ends_later t k n m end (Some stop) (inr h) = inr (omega (arith, h.0), h.1)
-
-leads_on : (t : Task) (c mid end : Configuration) (is js : List Item) → Leads t c is mid → Leads t mid js end → Leads t c (is ++ js) end
-leads_on t c mid end [] js h k = subst (λ (x : Configuration). Leads t x js end) h k
-leads_on t c mid end (i ∷ is) js h k = (h.0, (h.1.0, h.1.1, leads_on t h.1.0 mid end is js h.1.2 k))
 
 -- an event after other steps
 after-runs : (t : Task) (n : ℕ) (c mid : Configuration) (is : List Item) (e : Event) → Leads t c is mid → Runs t n mid e →

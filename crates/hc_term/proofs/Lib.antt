@@ -10,6 +10,7 @@ pub mod Commute
 pub mod Stretches
 pub mod Events
 pub mod Quiet
+pub mod Clock
 pub mod Bodies
 pub mod Handed
 pub mod Reached

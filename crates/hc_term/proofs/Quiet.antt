@@ -6,31 +6,32 @@ use Rattle.hc_term.specs.declared.stmt.Io.TheVariants.{Send, Receive}
 use Rattle.hc_term.specs.declared.stmt.Stmt.{Stmt, out-Stmt}
 use Rattle.hc_term.specs.declared.stmt.Stmt.TheOpen.{Stmt-F}
 use Rattle.hc_term.specs.declared.stmt.Branch.{Branch, out-Branch}
+use Rattle.hc_term.specs.declared.post.Post.{Post}
 use Rattle.hc_term.specs.declared.post.Offer.{Offer}
 use Rattle.hc_term.specs.declared.model.Mark.{Mark}
 use Rattle.hc_term.specs.declared.model.Mark.TheVariants.{Going, Arrived}
 use Rattle.hc_term.specs.declared.model.ProcessState.{ProcessState}
-use Rattle.hc_term.specs.declared.model.Meeting.{Meeting}
 use Rattle.hc_term.specs.Value.{Store}
 use Rattle.hc_term.specs.Motion.{Rates, rates_in, after}
 use Rattle.hc_term.specs.Process.{Layer, bound_here, is_due, wants}
 use Rattle.hc_term.specs.Offers.{offer_of, offers_of, offers_here, post}
 use Rattle.hc_term.specs.Communication.{moved_store, left_after, moved}
-use Rattle.hc_term.specs.Posts.{Passing, Took, first_of, gift_of, is_wish, gift, wishes, numbered, sender, receiver, meeting_by, meeting_on, meeting_from}
-use Rattle.hc_term.specs.Step.{ready, rests, passing_by, passing_quiet}
+use Rattle.hc_term.specs.Posts.{Took, first_of, gift_of, is_wish, gift, wishes, numbered, sender, receiver, meeting_by, meeting_on, meeting_from}
+use Rattle.hc_term.specs.Step.{posts, rests, delayed}
 use Rattle.hc_term.specs.Laws.{DelaysKeepQuiet}
+use Rattle.hc_term.proofs.Turns.{passing-quiet}
 
 -- ---- offers
 
 -- the offers ns are on no other channels than the offers os
-record NoMore (os ns : List Offer) : Type 0 where
-  no_gift : (c : ℕ) → gift c os ≡ None → gift c ns ≡ None
-  no_wish : (c : ℕ) → wishes c os ≡ false → wishes c ns ≡ false
+pub record NoMore (os ns : List Offer) : Type 0 where
+  pub no_gift : (c : ℕ) → gift c os ≡ None → gift c ns ≡ None
+  pub no_wish : (c : ℕ) → wishes c os ≡ false → wishes c ns ≡ false
 
-no_more_same : (os : List Offer) → NoMore os os
+pub no_more_same : (os : List Offer) → NoMore os os
 no_more_same os = record { no_gift = λ c e. e; no_wish = λ c e. e }
 
-no_more_none : (os : List Offer) → NoMore os []
+pub no_more_none : (os : List Offer) → NoMore os []
 no_more_none os = record { no_gift = λ c e. refl; no_wish = λ c e. refl }
 
 first_of-none : {A : Type 0} (o p : Option A) → first_of o p ≡ None → (o ≡ None) × (p ≡ None)
@@ -102,71 +103,74 @@ module _ (k₀ k₁ d : Rational) where
   moved-no_more : (q : ProcessState) → wants q ≡ false → NoMore (post k₀ q).offers (post k₁ (moved d q)).offers
   moved-no_more q = moved_by_parts q.todo q.store q.choices q.mark
 
-  -- ---- all processes
+-- ---- all processes
 
-  rests-cons : (b c : Bool) → (not b && c) ≡ true → (b ≡ false) × (c ≡ true)
-  rests-cons true c e = cc
-  rests-cons false c e = (refl, e)
+-- no post offers on more channels than the post in its place
+abbrev pub NoneMore : List Post → List Post → Type 0
+NoneMore ps [] = Unit {0}
+NoneMore [] (q ∷ qs) = ⊥
+NoneMore (p ∷ ps) (q ∷ qs) = NoMore p.offers q.offers × NoneMore ps qs
 
-  numbered-none : (p : ℕ) (o : Option Rational) → numbered p o ≡ None → o ≡ None
-  numbered-none p None e = refl
-  numbered-none p (Some v) e = cc
+numbered-none : (p : ℕ) (o : Option Rational) → numbered p o ≡ None → o ≡ None
+numbered-none p None e = refl
+numbered-none p (Some v) e = cc
 
-  sender-moves : (c p : ℕ) (qs : List ProcessState) → rests qs ≡ true →
-      sender c p (map (post k₀) qs) ≡ None → sender c p (map (post k₁) (map (moved d) qs)) ≡ None
-  sender-moves c p [] h e = refl
-  sender-moves c p (q ∷ qs) h e =
-      let r = rests-cons (wants q) (rests qs) h in
-      let parts = first_of-none (numbered p (gift c (post k₀ q).offers)) (sender c (p + 1) (map (post k₀) qs)) e in
-      let g = (moved-no_more q r.0).no_gift c (numbered-none p (gift c (post k₀ q).offers) parts.0) in
-      none_first_of _ _ (ap (numbered p) g) (sender-moves c (p + 1) qs r.1 parts.1)
+sender-none : (c p : ℕ) (ps qs : List Post) → NoneMore ps qs → sender c p ps ≡ None → sender c p qs ≡ None
+sender-none c p ps [] h e = refl
+sender-none c p [] (q ∷ qs) h e = absurd h
+sender-none c p (o ∷ ps) (q ∷ qs) h e =
+    let parts = first_of-none (numbered p (gift c o.offers)) (sender c (p + 1) ps) e in
+    let g = h.0.no_gift c (numbered-none p (gift c o.offers) parts.0) in
+    none_first_of (numbered p (gift c q.offers)) (sender c (p + 1) qs) (ap (numbered p) g) (sender-none c (p + 1) ps qs h.1 parts.1)
 
-  receiver-none : (b : Bool) (p : ℕ) (o : Option ℕ) → (if b then Some p else o) ≡ None → (b ≡ false) × (o ≡ None)
-  receiver-none true p o e = cc
-  receiver-none false p o e = (refl, e)
+wished-none : (b : Bool) (p : ℕ) (o : Option ℕ) → (if b then Some p else o) ≡ None → (b ≡ false) × (o ≡ None)
+wished-none true p o e = cc
+wished-none false p o e = (refl, e)
 
-  receiver-moves : (c p : ℕ) (qs : List ProcessState) → rests qs ≡ true →
-      receiver c p (map (post k₀) qs) ≡ None → receiver c p (map (post k₁) (map (moved d) qs)) ≡ None
-  receiver-moves c p [] h e = refl
-  receiver-moves c p (q ∷ qs) h e =
-      let r = rests-cons (wants q) (rests qs) h in
-      let parts = receiver-none (wishes c (post k₀ q).offers) p (receiver c (p + 1) (map (post k₀) qs)) e in
-      let w = (moved-no_more q r.0).no_wish c parts.0 in
-      ap (λ b. if b then Some p else receiver c (p + 1) (map (post k₁) (map (moved d) qs))) w ∙ receiver-moves c (p + 1) qs r.1 parts.1
+receiver-none : (c p : ℕ) (ps qs : List Post) → NoneMore ps qs → receiver c p ps ≡ None → receiver c p qs ≡ None
+receiver-none c p ps [] h e = refl
+receiver-none c p [] (q ∷ qs) h e = absurd h
+receiver-none c p (o ∷ ps) (q ∷ qs) h e =
+    let parts = wished-none (wishes c o.offers) p (receiver c (p + 1) ps) e in
+    ap (λ (b : Bool). if b then Some p else receiver c (p + 1) qs) (h.0.no_wish c parts.0) ∙ receiver-none c (p + 1) ps qs h.1 parts.1
 
-  meeting_by-none : (c : ℕ) (s : Option (ℕ × Rational)) (r : Option ℕ) → meeting_by c s r ≡ None → (s ≡ None) ⊎ (r ≡ None)
-  meeting_by-none c (Some s) (Some r) e = cc
-  meeting_by-none c (Some s) None e = inr refl
-  meeting_by-none c None r e = inl refl
+meeting_by-none : (c : ℕ) (s : Option (ℕ × Rational)) (r : Option ℕ) → meeting_by c s r ≡ None → (s ≡ None) ⊎ (r ≡ None)
+meeting_by-none c (Some s) (Some r) e = cc
+meeting_by-none c (Some s) None e = inr refl
+meeting_by-none c None r e = inl refl
 
-  none_meeting_by : (c : ℕ) (s : Option (ℕ × Rational)) (r : Option ℕ) → (s ≡ None) ⊎ (r ≡ None) → meeting_by c s r ≡ None
-  none_meeting_by c s r (inl e) = ap (λ x. meeting_by c x r) e
-  none_meeting_by c (Some s) r (inr e) = ap (λ x. meeting_by c (Some s) x) e
-  none_meeting_by c None r (inr e) = refl
+none_meeting_by : (c : ℕ) (s : Option (ℕ × Rational)) (r : Option ℕ) → (s ≡ None) ⊎ (r ≡ None) → meeting_by c s r ≡ None
+none_meeting_by c s r (inl e) = ap (λ x. meeting_by c x r) e
+none_meeting_by c (Some s) r (inr e) = ap (λ x. meeting_by c (Some s) x) e
+none_meeting_by c None r (inr e) = refl
 
-  meeting_on-moves : (c : ℕ) (qs : List ProcessState) → rests qs ≡ true →
-      meeting_on c (map (post k₀) qs) ≡ None → meeting_on c (map (post k₁) (map (moved d) qs)) ≡ None
-  meeting_on-moves c qs h e =
-      none_meeting_by c _ _
-      (⊎_elim (λ s. inl (sender-moves c 0 qs h s)) (λ r. inr (receiver-moves c 0 qs h r))
-      (meeting_by-none c (sender c 0 (map (post k₀) qs)) (receiver c 0 (map (post k₀) qs)) e))
+meeting_on-none : (c : ℕ) (ps qs : List Post) → NoneMore ps qs → meeting_on c ps ≡ None → meeting_on c qs ≡ None
+meeting_on-none c ps qs h e =
+    none_meeting_by c (sender c 0 qs) (receiver c 0 qs)
+    (⊎_elim (λ s. inl (sender-none c 0 ps qs h s)) (λ r. inr (receiver-none c 0 ps qs h r))
+    (meeting_by-none c (sender c 0 ps) (receiver c 0 ps) e))
 
-  meeting_from-moves : (c n : ℕ) (qs : List ProcessState) → rests qs ≡ true →
-      meeting_from c n (map (post k₀) qs) ≡ None → meeting_from c n (map (post k₁) (map (moved d) qs)) ≡ None
-  meeting_from-moves c zero qs h e = refl
-  meeting_from-moves c (suc n) qs h e =
-      let parts = first_of-none (meeting_on c (map (post k₀) qs)) (meeting_from (c + 1) n (map (post k₀) qs)) e in
-      none_first_of _ _ (meeting_on-moves c qs h parts.0) (meeting_from-moves (c + 1) n qs h parts.1)
+pub meeting_from-none : (c n : ℕ) (ps qs : List Post) → NoneMore ps qs → meeting_from c n ps ≡ None → meeting_from c n qs ≡ None
+meeting_from-none c zero ps qs h e = refl
+meeting_from-none c (suc n) ps qs h e =
+    let parts = first_of-none (meeting_on c ps) (meeting_from (c + 1) n ps) e in
+    none_first_of (meeting_on c qs) (meeting_from (c + 1) n qs) (meeting_on-none c ps qs h parts.0) (meeting_from-none (c + 1) n ps qs h parts.1)
 
 -- ---- the law
 
--- where time passes, no channel is ready and no process wants a silent step
-passing_by-quiet : (o : Option Meeting) (b : Bool) (what took : Passing) → passing_by o b what ≡ Some took → (o ≡ None) × (b ≡ true)
-passing_by-quiet (Some m) b what took e = cc
-passing_by-quiet None false what took e = cc
-passing_by-quiet None true what took e = (refl, refl)
+resting : (b c : Bool) → (not b && c) ≡ true → (b ≡ false) × (c ≡ true)
+resting true c e = cc
+resting false c e = (refl, e)
+
+posts-move : (k₀ k₁ d : Rational) (qs : List ProcessState) → rests qs ≡ true → NoneMore (map (post k₀) qs) (map (post k₁) (map (moved d) qs))
+posts-move k₀ k₁ d [] h = tt
+posts-move k₀ k₁ d (q ∷ qs) h =
+    let r = resting (wants q) (rests qs) h in
+    (moved-no_more k₀ k₁ d q r.0, posts-move k₀ k₁ d qs r.1)
 
 pub delays_keep_quiet : DelaysKeepQuiet
 delays_keep_quiet t c d e =
-    let h = passing_by-quiet (ready t c) (rests c.processes) (passing_quiet t c) (Took d) e in
-    meeting_from-moves c.clock (c.clock +ℚ d) d 0 (length t.system.channels) c.processes h.1 h.0
+    let h = passing-quiet t c (Took d) e in
+    meeting_from-none 0 (length t.system.channels) (posts c) (posts (delayed d c))
+    (posts-move c.clock (c.clock +ℚ d) d c.processes h.resting)
+    h.quiet

@@ -1,7 +1,8 @@
 -- What a configuration does next is one of its steps or its stops, and so the canonical run is a run.
-use Rattle.std.proofs.Common.{◌≡◌, refl, sym, ap, ◌∙◌, ℕ, zero, suc, ◌-◌, ◌≤◌, ◌<◌, Bool, true, false, if◌then◌else◌, length, slice_get, Option, Some, None, ◌⊎◌, inl, inr, arith}
+use Rattle.std.proofs.Common.{◌≡◌, refl, sym, ap, ◌∙◌, subst, ℕ, zero, suc, ◌+◌, ◌-◌, ◌≤◌, ◌<◌, Bool, true, false, if◌then◌else◌, List, [], ◌∷◌, ◌++◌, length, length-append, slice_get, Option, Some, None, ◌⊎◌, inl, inr, arith}
 use Rattle.hc_term.specs.declared.task.Task.{Task}
 use Rattle.hc_term.specs.declared.run.Step.{Step}
+use Rattle.hc_term.specs.declared.run.Item.{Item}
 use Rattle.hc_term.specs.declared.run.Stop.{Stop}
 use Rattle.hc_term.specs.declared.run.Stop.TheVariants.{Terminated, Deadlock, Limit}
 use Rattle.hc_term.specs.declared.model.Meeting.{Meeting}
@@ -9,9 +10,9 @@ use Rattle.hc_term.specs.declared.model.Configuration.{Configuration}
 use Rattle.hc_term.specs.Silent.{Outcome, Idle, Unfit, Did}
 use Rattle.hc_term.specs.Posts.{Passing, NoBound, AtHorizon, TooLarge, Took}
 use Rattle.hc_term.specs.Step.{opening, ready, rests, all_ended, passing, passing_by, passing_quiet, silent_by, silent_of, StepTo, Leads}
-use Rattle.hc_term.specs.Stop.{StopsAt}
+use Rattle.hc_term.specs.Stop.{StopsAt, Stops}
 use Rattle.hc_term.specs.Canonical.{Turn, Goes, Halts, wanting_from, turn_silent, turn_passing, turn_quiet, turn_by, turn, Course, course_by, course}
-use Rattle.hc_term.specs.Laws.{CanonicalIsBehaviour, GoesOnOrStops}
+use Rattle.hc_term.specs.Laws.{CanonicalIsBehaviour, GoesOnOrStops, RunIsPrefix}
 use Rattle.hc_term.proofs.Wanting.{Wanting, silent-not_idle, wanting_from-wanting, rests_where_none_wants}
 use Rattle.hc_term.proofs.Ready.{ready-steps}
 
@@ -40,6 +41,22 @@ turn_passing-sound t c (Took d) e = (e, refl)
 turn_passing-sound t c TooLarge e = e
 turn_passing-sound t c AtHorizon e = e
 turn_passing-sound t c NoBound e = ended_by-stops t c e
+
+-- where time does this, no channel is ready and no process wants a silent step
+pub record Passes (t : Task) (c : Configuration) (took : Passing) : Type 0 where
+  pub quiet : ready t c ≡ None
+  pub resting : rests c.processes ≡ true
+  pub what : passing_quiet t c ≡ took
+
+passing_by-parts : (o : Option Meeting) (b : Bool) (what took : Passing) → passing_by o b what ≡ Some took → (o ≡ None) × (b ≡ true) × (what ≡ took)
+passing_by-parts (Some m) b what took e = cc
+passing_by-parts None false what took e = cc
+passing_by-parts None true what took e = (refl, refl, cc)
+
+pub passing-quiet : (t : Task) (c : Configuration) (took : Passing) → passing t c ≡ Some took → Passes t c took
+passing-quiet t c took e =
+    let parts = passing_by-parts (ready t c) (rests c.processes) (passing_quiet t c) took e in
+    record { quiet = parts.0; resting = parts.1; what = parts.2 }
 
 passing_at : (t : Task) (c : Configuration) → ready t c ≡ None → rests c.processes ≡ true → passing t c ≡ Some (passing_quiet t c)
 passing_at t c quiet r =
@@ -74,6 +91,11 @@ goes_on_or_stops t c = sound-goes_or_stops t c (turn t c) (turn-sound t c)
 
 -- ---- the course from a configuration
 
+-- what leads on from the end of a piece of a run
+pub leads_on : (t : Task) (c mid end : Configuration) (is js : List Item) → Leads t c is mid → Leads t mid js end → Leads t c (is ++ js) end
+leads_on t c mid end [] js h k = subst (λ (x : Configuration). Leads t x js end) h k
+leads_on t c mid end (i ∷ is) js h k = (h.0, (h.1.0, h.1.1, leads_on t h.1.0 mid end is js h.1.2 k))
+
 -- the course is a piece of a run of at most n steps, and ends with a stop
 record Follows (t : Task) (c : Configuration) (n : ℕ) (k : Course) : Type 0 where
   leads : Leads t c k.items k.end
@@ -105,3 +127,29 @@ pub canonical_is_behaviour : CanonicalIsBehaviour
 canonical_is_behaviour t =
     let f = course-follows t.limit t (opening t) in
     record { run = record { leads = f.leads; within = f.within }; stops = f.stops }
+
+-- ---- each run begins a behaviour
+
+-- a stop after so many more steps is one after all of them
+stops_on : (t : Task) (before more : ℕ) (end : Configuration) (stop : Stop) → before ≤ t.limit →
+    ((more ≡ t.limit - before) × (stop ≡ Limit)) ⊎ ((more < t.limit - before) × StopsAt t end stop) → Stops t (before + more) end stop
+stops_on t before more end stop within (inl h) = inl (omega (arith, h.0), h.1)
+stops_on t before more end stop within (inr h) = inr (omega (arith, h.0), h.1)
+
+pub run_is_prefix : RunIsPrefix
+run_is_prefix t items end r =
+    let left = t.limit - length items in
+    let k : Course = course left t end in
+    let f = course-follows left t end in
+    let both = length-append items k.items in (
+      k.items,
+      k.end,
+      k.stop,
+      record {
+        run = record {
+          leads = leads_on t (opening t) end k.end items k.items r.leads f.leads;
+          within = omega (arith, both, f.within, r.within);
+        };
+        stops = subst (λ (n : ℕ). Stops t n k.end k.stop) (sym both) (stops_on t (length items) (length k.items) k.end k.stop r.within f.stops);
+      },
+    )

@@ -1,16 +1,17 @@
 -- What holds of every task.
-use Rattle.std.specs.Prelude.{◌≡◌, ◌≢◌, ◌<◌, ◌≤◌, ℕ, List, length, slice_get, Option, Some, None, ◌⊎◌}
-use Rattle.hc_rational.specs.Words.{Rational}
+use Rattle.std.specs.Prelude.{◌≡◌, ◌≢◌, ◌<◌, ◌≤◌, ℕ, List, ◌++◌, length, slice_get, Option, Some, None, ◌⊎◌}
+use Rattle.hc_rational.specs.Words.{Rational, ◌≤ℚ◌}
 use Rattle.hc_term.specs.declared.task.Task.{Task}
 use Rattle.hc_term.specs.declared.run.Step.{Step}
 use Rattle.hc_term.specs.declared.run.Step.TheVariants.{Silent, Comm}
 use Rattle.hc_term.specs.declared.run.Item.{Item}
 use Rattle.hc_term.specs.declared.run.Stop.{Stop}
+use Rattle.hc_term.specs.declared.run.Stop.TheVariants.{Horizon}
 use Rattle.hc_term.specs.declared.model.ProcessState.{ProcessState}
 use Rattle.hc_term.specs.declared.model.Meeting.{Meeting}
 use Rattle.hc_term.specs.declared.model.Configuration.{Configuration}
 use Rattle.hc_term.specs.Posts.{Took}
-use Rattle.hc_term.specs.Step.{opening, ready, passing, delayed, Meets, StepTo, Leads}
+use Rattle.hc_term.specs.Step.{opening, ready, passing, delayed, Meets, StepTo, IsRun, Leads}
 use Rattle.hc_term.specs.Stop.{StopsAt, IsBehaviour}
 use Rattle.hc_term.specs.Canonical.{canonical}
 use Rattle.hc_term.specs.Event.{event, EndsWell}
@@ -23,6 +24,12 @@ CanonicalIsBehaviour = (t : Task) → IsBehaviour t (canonical t).items (canonic
 abbrev pub GoesOnOrStops : Type 0
 GoesOnOrStops =
     (t : Task) (c : Configuration) → ((step : Step) × (next : Configuration) × StepTo t c step next) ⊎ ((stop : Stop) × StopsAt t c stop)
+
+-- each run can be led on to a behaviour
+abbrev pub RunIsPrefix : Type 0
+RunIsPrefix =
+    (t : Task) (items : List Item) (end : Configuration) → IsRun t items end →
+    (more : List Item) × (last : Configuration) × (stop : Stop) × IsBehaviour t (items ++ more) last stop
 
 -- silent steps of two processes may be taken in either order
 abbrev pub SilentStepsCommute : Type 0
@@ -37,6 +44,15 @@ SilentAndCommCommute =
     (t : Task) (c one two : Configuration) (p channel : ℕ) (logged : Option Rational) (value : Rational) →
     StepTo t c (Silent p logged) one → StepTo t c (Comm channel value) two →
     (both : Configuration) × StepTo t one (Comm channel value) both × StepTo t two (Silent p logged) both
+
+-- in what a run reaches, the clock is at the horizon at most
+abbrev pub ClockKeepsHorizon : Type 0
+ClockKeepsHorizon = (t : Task) (items : List Item) (c : Configuration) → Leads t (opening t) items c → c.clock ≤ℚ t.horizon
+
+-- and a run that stops at the horizon has reached it
+abbrev pub HorizonIsReached : Type 0
+HorizonIsReached =
+    (t : Task) (items : List Item) (c : Configuration) → Leads t (opening t) items c → StopsAt t c Horizon → c.clock ≡ t.horizon
 
 -- in what a run reaches, a communication joins two processes
 abbrev pub MeetingsJoinTwo : Type 0

@@ -1,6 +1,6 @@
 //! Laws of the definitions.
 
-ghost use Rattle.hc_term.specs.Laws.{CanonicalIsBehaviour, GoesOnOrStops, SilentStepsCommute, SilentAndCommCommute, DelaysKeepQuiet, EventIsRun, MeetingsJoinTwo, MeetingsAreUnique};
+ghost use Rattle.hc_term.specs.Laws.{CanonicalIsBehaviour, GoesOnOrStops, SilentStepsCommute, SilentAndCommCommute, DelaysKeepQuiet, EventIsRun, RunIsPrefix, ClockKeepsHorizon, HorizonIsReached, MeetingsJoinTwo, MeetingsAreUnique};
 
 /// What holds of every task. There is nothing to run: the clauses are the laws.
 pub fn runs()
@@ -14,6 +14,9 @@ pub fn runs()
 
 /// What holds of every run of a task, from its opening on. There is nothing to run: the clauses are the laws.
 pub fn runs_from_opening()
+    ensures prefix { RunIsPrefix }
+    ensures clock { ClockKeepsHorizon }
+    ensures horizon { HorizonIsReached }
     ensures joins_two { MeetingsJoinTwo }
     ensures unique { MeetingsAreUnique }
 {}
