@@ -97,7 +97,7 @@ second_part-runs t (suc n) p c ends.Spent h = meetings-runs t (suc n) c
 
 -- ---- the event
 
-length-silent_items : (clock : Rational) (p : ℕ) (ls : List (Option Rational)) → length (silent_items clock p ls) ≡ length ls
+pub length-silent_items : (clock : Rational) (p : ℕ) (ls : List (Option Rational)) → length (silent_items clock p ls) ≡ length ls
 length-silent_items clock p [] = refl
 length-silent_items clock p (l ∷ ls) = ap suc (length-silent_items clock p ls)
 

@@ -10,6 +10,9 @@ pub mod Commute
 pub mod Stretches
 pub mod Events
 pub mod Quiet
+pub mod Courses
+pub mod Leading
+pub mod Settled
 pub mod Clock
 pub mod Bodies
 pub mod Handed

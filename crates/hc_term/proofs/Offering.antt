@@ -51,6 +51,13 @@ idle_at seed p clock (head ∷ rest) store choices (Arrived left) h =
 pub offering-idle : (seed p : ℕ) (clock : Rational) (c : ProcessState) → Offers (post clock c).offers → silent seed p clock c ≡ Idle
 offering-idle seed p clock c = idle_at seed p clock c.todo c.store c.choices c.mark
 
+-- a process with a silent step offers nothing
+pub active-offers : (seed p : ℕ) (clock : Rational) (c : ProcessState) → (silent seed p clock c ≡ Idle → ⊥) → (post clock c).offers ≡ []
+active-offers seed p clock c h = by_offers (post clock c).offers refl where
+  by_offers : (os : List Offer) → (post clock c).offers ≡ os → (post clock c).offers ≡ []
+  by_offers [] e = e
+  by_offers (o ∷ os) e = absurd (h (offering-idle seed p clock c (λ f. cc)))
+
 -- ---- by the place of the process
 
 gift-offers : (ch : ℕ) (v : Rational) (os : List Offer) → gift ch os ≡ Some v → Offers os

@@ -1,5 +1,5 @@
 -- A delay makes no channel ready.
-use Rattle.std.proofs.Common.{◌≡◌, refl, sym, ap, ap₂, ◌∙◌, ℕ, zero, suc, ◌+◌, Bool, true, false, not, ◌&&◌, ◌||◌, if◌then◌else◌, List, [], ◌∷◌, map, length, Option, Some, None, ◌⊎◌, inl, inr, ⊎_elim, true≢false, ◌==◌}
+use Rattle.std.proofs.Common.{◌≡◌, refl, sym, ap, ap₂, ◌∙◌, subst, ℕ, zero, suc, ◌+◌, Bool, true, false, not, ◌&&◌, ◌||◌, if◌then◌else◌, List, [], ◌∷◌, map, length, slice_set, Option, Some, None, ◌⊎◌, inl, inr, ⊎_elim, true≢false, ◌==◌}
 use Rattle.hc_rational.specs.Words.{Rational, ◌+ℚ◌}
 use Rattle.hc_term.specs.declared.stmt.Io.{Io}
 use Rattle.hc_term.specs.declared.stmt.Io.TheVariants.{Send, Receive}
@@ -8,6 +8,8 @@ use Rattle.hc_term.specs.declared.stmt.Stmt.TheOpen.{Stmt-F}
 use Rattle.hc_term.specs.declared.stmt.Branch.{Branch, out-Branch}
 use Rattle.hc_term.specs.declared.post.Post.{Post}
 use Rattle.hc_term.specs.declared.post.Offer.{Offer}
+use Rattle.hc_term.specs.declared.task.Task.{Task}
+use Rattle.hc_term.specs.declared.model.Configuration.{Configuration}
 use Rattle.hc_term.specs.declared.model.Mark.{Mark}
 use Rattle.hc_term.specs.declared.model.Mark.TheVariants.{Going, Arrived}
 use Rattle.hc_term.specs.declared.model.ProcessState.{ProcessState}
@@ -17,7 +19,7 @@ use Rattle.hc_term.specs.Process.{Layer, bound_here, is_due, wants}
 use Rattle.hc_term.specs.Offers.{offer_of, offers_of, offers_here, post}
 use Rattle.hc_term.specs.Communication.{moved_store, left_after, moved}
 use Rattle.hc_term.specs.Posts.{Took, first_of, gift_of, is_wish, gift, wishes, numbered, sender, receiver, meeting_by, meeting_on, meeting_from}
-use Rattle.hc_term.specs.Step.{posts, rests, delayed}
+use Rattle.hc_term.specs.Step.{posts, ready, rests, replaced, delayed}
 use Rattle.hc_term.specs.Laws.{DelaysKeepQuiet}
 use Rattle.hc_term.proofs.Turns.{passing-quiet}
 
@@ -38,7 +40,7 @@ first_of-none : {A : Type 0} (o p : Option A) → first_of o p ≡ None → (o �
 first_of-none (Some a) p e = cc
 first_of-none None p e = (refl, e)
 
-none_first_of : {A : Type 0} (o p : Option A) → o ≡ None → p ≡ None → first_of o p ≡ None
+pub none_first_of : {A : Type 0} (o p : Option A) → o ≡ None → p ≡ None → first_of o p ≡ None
 none_first_of o p e f = ap (λ x. first_of x p) e ∙ f
 
 -- whether there is a gift doesn't turn on its value
@@ -139,7 +141,7 @@ meeting_by-none c (Some s) (Some r) e = cc
 meeting_by-none c (Some s) None e = inr refl
 meeting_by-none c None r e = inl refl
 
-none_meeting_by : (c : ℕ) (s : Option (ℕ × Rational)) (r : Option ℕ) → (s ≡ None) ⊎ (r ≡ None) → meeting_by c s r ≡ None
+pub none_meeting_by : (c : ℕ) (s : Option (ℕ × Rational)) (r : Option ℕ) → (s ≡ None) ⊎ (r ≡ None) → meeting_by c s r ≡ None
 none_meeting_by c s r (inl e) = ap (λ x. meeting_by c x r) e
 none_meeting_by c (Some s) r (inr e) = ap (λ x. meeting_by c (Some s) x) e
 none_meeting_by c None r (inr e) = refl
@@ -174,3 +176,22 @@ delays_keep_quiet t c d e =
     meeting_from-none 0 (length t.system.channels) (posts c) (posts (delayed d c))
     (posts-move c.clock (c.clock +ℚ d) d c.processes h.resting)
     h.quiet
+
+-- ---- a silent step
+
+none_more_same : (ps : List Post) → NoneMore ps ps
+none_more_same [] = tt
+none_more_same (p ∷ ps) = (no_more_same p.offers, none_more_same ps)
+
+posts-set : (clock : Rational) (qs : List ProcessState) (p : ℕ) (x : ProcessState) → (post clock x).offers ≡ [] →
+    NoneMore (map (post clock) qs) (map (post clock) (slice_set qs p x))
+posts-set clock [] p x e = tt
+posts-set clock (q ∷ qs) zero x e =
+    (subst (λ (os : List Offer). NoMore (post clock q).offers os) (sym e) (no_more_none (post clock q).offers), none_more_same (map (post clock) qs))
+posts-set clock (q ∷ qs) (suc p) x e = (no_more_same (post clock q).offers, posts-set clock qs p x e)
+
+-- a process that offers nothing makes no channel ready
+pub quiet-set : (t : Task) (c : Configuration) (p : ℕ) (x : ProcessState) → (post c.clock x).offers ≡ [] → ready t c ≡ None →
+    ready t (replaced c p x) ≡ None
+quiet-set t c p x e h =
+    meeting_from-none 0 (length t.system.channels) (posts c) (posts (replaced c p x)) (posts-set c.clock c.processes p x e) h

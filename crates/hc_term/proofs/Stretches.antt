@@ -21,10 +21,10 @@ module _ (t : Task) (p : ℕ) where
   silent_of-at : (c : Configuration) (q : ProcessState) → slice_get c.processes p ≡ Some q → silent_of t c p ≡ silent t.seed p c.clock q
   silent_of-at c q at = ap (silent_by t c.clock p) at
 
-  replaced_back : (c : Configuration) (q : ProcessState) → slice_get c.processes p ≡ Some q → replaced c p q ≡ c
+  pub replaced_back : (c : Configuration) (q : ProcessState) → slice_get c.processes p ≡ Some q → replaced c p q ≡ c
   replaced_back c q at = ap (λ ps. record { clock = c.clock; processes = ps }) (set_back c.processes p q at)
 
-  replaced_twice : (c : Configuration) (q r : ProcessState) → replaced (replaced c p q) p r ≡ replaced c p r
+  pub replaced_twice : (c : Configuration) (q r : ProcessState) → replaced (replaced c p q) p r ≡ replaced c p r
   replaced_twice c q r = ap (λ ps. record { clock = c.clock; processes = ps }) (set-set c.processes p q r)
 
   stopped-stretches : (c : Configuration) (n : ℕ) (q : ProcessState) (end : StretchEnd) → slice_get c.processes p ≡ Some q →
@@ -35,7 +35,7 @@ module _ (t : Task) (p : ℕ) where
     unfit = λ e. silent_of-at (replaced c p q) q (get-set_same c.processes p q q at) ∙ h e;
   }
 
-  idle_end-unfit : (q : ProcessState) (b : Bool) → (if b then ends.Ended else ends.Waits) ≡ ends.Unfit → ⊥
+  pub idle_end-unfit : (q : ProcessState) (b : Bool) → (if b then ends.Ended else ends.Waits) ≡ ends.Unfit → ⊥
   idle_end-unfit q true e = cc
   idle_end-unfit q false e = cc
 

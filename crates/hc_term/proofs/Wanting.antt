@@ -1,5 +1,5 @@
 -- A process that wants a silent step has one, or its working values don't fit.
-use Rattle.std.proofs.Common.{◌≡◌, refl, sym, subst, ℕ, suc, ◌+◌, ◌-◌, ◌≤◌, Bool, true, false, not, ◌&&◌, if◌then◌else◌, List, [], ◌∷◌, slice_get, Option, Some, None, arith}
+use Rattle.std.proofs.Common.{◌≡◌, refl, sym, ap, ◌∙◌, subst, ℕ, zero, suc, ◌+◌, ◌-◌, ◌≤◌, Bool, true, false, not, ◌&&◌, if◌then◌else◌, List, [], ◌∷◌, slice_get, slice_set, Option, Some, None, arith}
 use Rattle.hc_rational.specs.Words.{Rational}
 use Rattle.hc_term.specs.declared.stmt.Stmt.{Stmt, out-Stmt}
 use Rattle.hc_term.specs.declared.stmt.Stmt.TheOpen.{Stmt-F}
@@ -43,6 +43,23 @@ silent_at-not_idle seed p clock c (Arrived left) (head ∷ rest) h e = due_step-
 
 pub silent-not_idle : (seed p : ℕ) (clock : Rational) (c : ProcessState) → wants c ≡ true → silent seed p clock c ≡ Idle → ⊥
 silent-not_idle seed p clock c = silent_at-not_idle seed p clock c c.mark c.todo
+
+-- and one that wants none has none
+idle_if-not_due : (c : ProcessState) (rest : List Stmt) (b : Bool) → b ≡ false → (if b then goes_on c rest else Idle) ≡ Idle
+idle_if-not_due c rest true h = cc
+idle_if-not_due c rest false h = refl
+
+silent_at-idle : (seed p : ℕ) (clock : Rational) (c : ProcessState) (mark : Mark) (todo : List Stmt) →
+    wants_at mark (bound c) todo ≡ false → silent_at seed p clock c mark todo ≡ Idle
+silent_at-idle seed p clock c mark [] h = refl
+silent_at-idle seed p clock c Going (head ∷ rest) h = cc
+silent_at-idle seed p clock c (Arrived left) (head ∷ rest) h = idle_if-not_due c rest (is_due (bound c)) h
+
+pub active-wants : (seed p : ℕ) (clock : Rational) (c : ProcessState) → (silent seed p clock c ≡ Idle → ⊥) → wants c ≡ true
+active-wants seed p clock c h = by_test (wants c) refl where
+  by_test : (b : Bool) → wants c ≡ b → wants c ≡ true
+  by_test true e = e
+  by_test false e = absurd (h (silent_at-idle seed p clock c c.mark c.todo e))
 
 -- ---- the least process that wants one
 
@@ -90,3 +107,39 @@ rests_next from q qs false ih e = ih e
 pub rests_where_none_wants : (from : ℕ) (ps : List ProcessState) → wanting_from from ps ≡ None → rests ps ≡ true
 rests_where_none_wants from [] e = refl
 rests_where_none_wants from (q ∷ qs) e = rests_next from q qs (wants q) (rests_where_none_wants (from + 1) qs) e
+
+resting_next : (from : ℕ) (q : ProcessState) (qs : List ProcessState) (b : Bool) →
+    (rests qs ≡ true → wanting_from (from + 1) qs ≡ None) →
+    (not b && rests qs) ≡ true → (if b then Some from else wanting_from (from + 1) qs) ≡ None
+resting_next from q qs true ih e = cc
+resting_next from q qs false ih e = ih e
+
+pub none_wants_where_rests : (from : ℕ) (ps : List ProcessState) → rests ps ≡ true → wanting_from from ps ≡ None
+none_wants_where_rests from [] e = refl
+none_wants_where_rests from (q ∷ qs) e = resting_next from q qs (wants q) (none_wants_where_rests (from + 1) qs) e
+
+-- the least process that wants one stays so with another state that wants one
+least_here : (from : ℕ) (b : Bool) (o : Option ℕ) → b ≡ true → (if b then Some from else o) ≡ Some (from + 0)
+least_here from true o e = ap Some (omega arith)
+least_here from false o e = cc
+
+least_later : (from i : ℕ) (b : Bool) (old new : Option ℕ) → (old ≡ Some (from + 1 + i) → new ≡ Some (from + 1 + i)) →
+    (if b then Some from else old) ≡ Some (from + suc i) → (if b then Some from else new) ≡ Some (from + suc i)
+least_later from i true old new ih e = e
+least_later from i false old new ih e =
+    let same : from + suc i ≡ from + 1 + i = omega arith in
+    ih (e ∙ ap Some same) ∙ ap Some (sym same)
+
+wanting_from-set : (from i : ℕ) (qs : List ProcessState) (x : ProcessState) → wants x ≡ true →
+    wanting_from from qs ≡ Some (from + i) → wanting_from from (slice_set qs i x) ≡ Some (from + i)
+wanting_from-set from i [] x h e = e
+wanting_from-set from zero (q ∷ qs) x h e = least_here from (wants x) (wanting_from (from + 1) qs) h
+wanting_from-set from (suc i) (q ∷ qs) x h e =
+    least_later from i (wants q) (wanting_from (from + 1) qs) (wanting_from (from + 1) (slice_set qs i x))
+    (wanting_from-set (from + 1) i qs x h) e
+
+pub least-set : (qs : List ProcessState) (p : ℕ) (x : ProcessState) → wants x ≡ true → wanting_from 0 qs ≡ Some p →
+    wanting_from 0 (slice_set qs p x) ≡ Some p
+least-set qs p x h e =
+    let same : p ≡ 0 + p = omega arith in
+    wanting_from-set 0 p qs x h (e ∙ ap Some same) ∙ ap Some (sym same)

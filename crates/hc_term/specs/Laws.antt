@@ -1,5 +1,5 @@
 -- What holds of every task.
-use Rattle.std.specs.Prelude.{◌≡◌, ◌≢◌, ◌<◌, ◌≤◌, ℕ, List, ◌++◌, length, slice_get, Option, Some, None, ◌⊎◌}
+use Rattle.std.specs.Prelude.{◌≡◌, ◌≢◌, ◌<◌, ◌≤◌, ℕ, ◌-◌, List, ◌++◌, length, slice_get, Option, Some, None, ◌⊎◌}
 use Rattle.hc_rational.specs.Words.{Rational, ◌≤ℚ◌}
 use Rattle.hc_term.specs.declared.task.Task.{Task}
 use Rattle.hc_term.specs.declared.run.Step.{Step}
@@ -13,8 +13,8 @@ use Rattle.hc_term.specs.declared.model.Configuration.{Configuration}
 use Rattle.hc_term.specs.Posts.{Took}
 use Rattle.hc_term.specs.Step.{opening, ready, passing, delayed, Meets, StepTo, IsRun, Leads}
 use Rattle.hc_term.specs.Stop.{StopsAt, IsBehaviour}
-use Rattle.hc_term.specs.Canonical.{canonical}
-use Rattle.hc_term.specs.Event.{event, EndsWell}
+use Rattle.hc_term.specs.Canonical.{canonical, course, wanting_from}
+use Rattle.hc_term.specs.Event.{Event, event, EndsWell}
 
 -- the canonical run is a run with one of its stops
 abbrev pub CanonicalIsBehaviour : Type 0
@@ -75,3 +75,23 @@ abbrev pub EventIsRun : Type 0
 EventIsRun =
     (room : ℕ) (t : Task) (p : ℕ) (c : Configuration) (q : ProcessState) → slice_get c.processes p ≡ Some q →
     let e = event room t p c in Leads t c e.items e.end × (length e.items ≤ room) × EndsWell t room (length e.items) e.end e.stop
+
+-- an event that sets no stop leaves no channel ready, and none is ready at the opening
+abbrev pub EventsEndQuiet : Type 0
+EventsEndQuiet =
+    (room : ℕ) (t : Task) (p : ℕ) (c : Configuration) (q : ProcessState) → slice_get c.processes p ≡ Some q →
+    let e = event room t p c in e.stop ≡ None → ready t e.end ≡ None
+
+abbrev pub OpeningIsQuiet : Type 0
+OpeningIsQuiet = (t : Task) → ready t (opening t) ≡ None
+
+-- the canonical steps from c are those of the event, and what follows them where it sets no stop
+pub record BeginsWith (room : ℕ) (t : Task) (c : Configuration) (e : Event) : Type 0 where
+  pub stopped : (stop : Stop) → e.stop ≡ Some stop → course room t c ≡ record { items = e.items; end = e.end; stop = stop }
+  pub going : e.stop ≡ None → let k = course (room - length e.items) t e.end in course room t c ≡ record k { items = e.items ++ k.items }
+
+-- where no channel is ready, the canonical steps begin with the event of the least process that wants a silent step
+abbrev pub CanonicalByEvents : Type 0
+CanonicalByEvents =
+    (room : ℕ) (t : Task) (p : ℕ) (c : Configuration) → ready t c ≡ None → wanting_from 0 c.processes ≡ Some p →
+    BeginsWith room t c (event room t p c)

@@ -1,6 +1,6 @@
 //! Laws of the definitions.
 
-ghost use Rattle.hc_term.specs.Laws.{CanonicalIsBehaviour, GoesOnOrStops, SilentStepsCommute, SilentAndCommCommute, DelaysKeepQuiet, EventIsRun, RunIsPrefix, ClockKeepsHorizon, HorizonIsReached, MeetingsJoinTwo, MeetingsAreUnique};
+ghost use Rattle.hc_term.specs.Laws.{CanonicalIsBehaviour, GoesOnOrStops, SilentStepsCommute, SilentAndCommCommute, DelaysKeepQuiet, EventIsRun, OpeningIsQuiet, EventsEndQuiet, CanonicalByEvents, RunIsPrefix, ClockKeepsHorizon, HorizonIsReached, MeetingsJoinTwo, MeetingsAreUnique};
 
 /// What holds of every task. There is nothing to run: the clauses are the laws.
 pub fn runs()
@@ -19,4 +19,11 @@ pub fn runs_from_opening()
     ensures horizon { HorizonIsReached }
     ensures joins_two { MeetingsJoinTwo }
     ensures unique { MeetingsAreUnique }
+{}
+
+/// What holds of every event. There is nothing to run: the clauses are the laws.
+pub fn events()
+    ensures opening_quiet { OpeningIsQuiet }
+    ensures end_quiet { EventsEndQuiet }
+    ensures canonical { CanonicalByEvents }
 {}

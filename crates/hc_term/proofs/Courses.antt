@@ -1,0 +1,100 @@
+-- The communications and the delay at the end of an event are canonical steps.
+use Rattle.std.proofs.Common.{◌≡◌, refl, sym, ap, ◌∙◌, ℕ, zero, suc, ◌+◌, ◌-◌, List, [], ◌∷◌, ◌++◌, length, append_assoc, length-append, Option, Some, None, arith}
+use Rattle.hc_term.specs.declared.task.Task.{Task}
+use Rattle.hc_term.specs.declared.run.Step.TheVariants.{Comm, Delay}
+use Rattle.hc_term.specs.declared.run.Item.{Item}
+use Rattle.hc_term.specs.declared.run.Stop.{Stop}
+use Rattle.hc_term.specs.declared.run.Stop.TheVariants.{Overflow}
+use Rattle.hc_term.specs.declared.run.StretchEnd.{StretchEnd}
+use Rattle.hc_term.specs.declared.run.StretchEnd.TheVariants as ends
+use Rattle.hc_term.specs.declared.model.Meeting.{Meeting}
+use Rattle.hc_term.specs.declared.model.Configuration.{Configuration}
+use Rattle.hc_term.specs.Posts.{Passing, NoBound, AtHorizon, TooLarge, Took}
+use Rattle.hc_term.specs.Step.{ready, passing, met, delayed}
+use Rattle.hc_term.specs.Canonical.{Halts, turn_passing, turn_quiet, turn_by, turn, Course, preceded, course_by, course}
+use Rattle.hc_term.specs.Event.{Event, event_after, stop_of_passing, stop_after, last_part_by, meetings_by, meetings, second_part}
+use Rattle.hc_term.proofs.Wanting.{none_wants_where_rests}
+use Rattle.hc_term.proofs.Turns.{passing-quiet}
+
+-- these steps, and then the course
+abbrev pub led : List Item → Course → Course
+led before k = record k { items = before ++ k.items }
+
+-- the steps of the event, and then the canonical ones, where it sets no stop
+abbrev pub course_then : ℕ → Task → Event → Option Stop → Course
+course_then n t e None = led e.items (course (n - length e.items) t e.end)
+course_then n t e (Some stop) = record { items = e.items; end = e.end; stop = stop }
+
+-- other steps before an event
+pub then-after : (t : Task) (n : ℕ) (before : List Item) (e : Event) (stop : Option Stop) →
+    course_then (length before + n) t (event_after before e) stop ≡ led before (course_then n t e stop)
+then-after t n before e (Some stop) = refl
+then-after t n before e None =
+    let k = course (n - length e.items) t e.end in
+    let left : length before + n - length (before ++ e.items) ≡ n - length e.items = omega (arith, length-append before e.items) in
+    ap (λ (m : ℕ). led (before ++ e.items) (course m t e.end)) left
+    ∙ ap (λ (is : List Item). record { items = is; end = k.end; stop = k.stop }) (append_assoc before e.items k.items)
+
+module _ (t : Task) where
+  -- ---- the delay
+
+  turn-passing : (c : Configuration) (what : Passing) → passing t c ≡ Some what → turn t c ≡ turn_passing c what
+  turn-passing c what e =
+      let h = passing-quiet t c what e in
+      ap (turn_by t c) h.quiet ∙ ap (turn_quiet t c) (none_wants_where_rests 0 c.processes h.resting) ∙ ap (turn_passing c) h.what
+
+  course-passing : (n : ℕ) (c : Configuration) (what : Passing) → passing t c ≡ Some what →
+      course (suc n) t c ≡ course_by c (course n t) (turn_passing c what)
+  course-passing n c what e = ap (course_by c (course n t)) (turn-passing c what e)
+
+  same_course : (n m : ℕ) (c : Configuration) → n ≡ m → course n t c ≡ course m t c
+  same_course n m c e = ap (λ (i : ℕ). course i t c) e
+
+  -- after the delay, by what time would do next
+  delayed_by : (n : ℕ) (i : Item) (c : Configuration) (o : Option Passing) → passing t c ≡ o →
+      preceded i (course (suc n) t c) ≡ course_then (suc (suc n)) t (record { items = i ∷ []; end = c; stop = None }) (stop_of_passing c o)
+  delayed_by n i c (Some NoBound) e = ap (preceded i) (course-passing n c NoBound e)
+  delayed_by n i c (Some AtHorizon) e = ap (preceded i) (course-passing n c AtHorizon e)
+  delayed_by n i c (Some TooLarge) e = ap (preceded i) (same_course (suc n) (suc (suc n) - 1) c (omega arith))
+  delayed_by n i c (Some (Took d)) e = ap (preceded i) (same_course (suc n) (suc (suc n) - 1) c (omega arith))
+  delayed_by n i c None e = ap (preceded i) (same_course (suc n) (suc (suc n) - 1) c (omega arith))
+
+  delayed-then : (n : ℕ) (i : Item) (c : Configuration) →
+      preceded i (course n t c) ≡ course_then (suc n) t (record { items = i ∷ []; end = c; stop = None }) (stop_after n t c)
+  delayed-then zero i c = refl
+  delayed-then (suc n) i c = delayed_by n i c (passing t c) refl
+
+  last_part-then : (n : ℕ) (c : Configuration) (o : Option Passing) → passing t c ≡ o →
+      course (suc n) t c ≡ course_then (suc n) t (last_part_by n t c o) (last_part_by n t c o).stop
+  last_part-then n c (Some (Took d)) e =
+      course-passing n c (Took d) e ∙ delayed-then n (record { at = c.clock; step = Delay d }) (delayed d c)
+  last_part-then n c (Some TooLarge) e = course-passing n c TooLarge e
+  last_part-then n c (Some NoBound) e = course-passing n c NoBound e
+  last_part-then n c (Some AtHorizon) e = course-passing n c AtHorizon e
+  last_part-then n c None e = same_course (suc n) (suc n - 0) c (omega arith)
+
+  -- ---- the communications
+
+  meetings_by-then : (n : ℕ) (c : Configuration) (o : Option Meeting) → ready t c ≡ o →
+      ((d : Configuration) → course n t d ≡ course_then n t (meetings n t d) (meetings n t d).stop) →
+      let e = meetings_by c (meetings n t) (last_part_by n t c (passing t c)) o in course (suc n) t c ≡ course_then (suc n) t e e.stop
+  meetings_by-then n c None h ih = last_part-then n c (passing t c) refl
+  meetings_by-then n c (Some m) h ih =
+      let i : Item = record { at = c.clock; step = Comm m.channel m.value } in
+      let e = meetings n t (met m c) in
+      let one : 1 + n ≡ suc n = omega arith in
+      ap (course_by c (course n t)) (ap (turn_by t c) h) ∙ ap (preceded i) (ih (met m c)) ∙ sym (then-after t n (i ∷ []) e e.stop)
+      ∙ ap (λ (k : ℕ). course_then k t (event_after (i ∷ []) e) e.stop) one
+
+  meetings-then : (n : ℕ) (c : Configuration) → course n t c ≡ course_then n t (meetings n t c) (meetings n t c).stop
+  meetings-then zero c = refl
+  meetings-then (suc n) c = meetings_by-then n c (ready t c) refl (meetings-then n)
+
+  pub second_part-then : (n p : ℕ) (c : Configuration) (end : StretchEnd) → (end ≡ ends.Unfit → turn t c ≡ Halts (Overflow (Some p))) →
+      course n t c ≡ course_then n t (second_part n t p c end) (second_part n t p c end).stop
+  second_part-then zero p c end h = refl
+  second_part-then (suc n) p c ends.Unfit h = ap (course_by c (course n t)) (h refl)
+  second_part-then (suc n) p c (ends.Logged v) h = meetings-then (suc n) c
+  second_part-then (suc n) p c ends.Waits h = meetings-then (suc n) c
+  second_part-then (suc n) p c ends.Ended h = meetings-then (suc n) c
+  second_part-then (suc n) p c ends.Spent h = meetings-then (suc n) c
