@@ -1,10 +1,9 @@
 -- Where no channel is ready, the canonical steps begin with the event of the least process that wants a silent step.
-use Rattle.std.proofs.Common.{◌≡◌, refl, sym, ap, ap₂, ◌∙◌, subst, ℕ, zero, suc, ◌+◌, ◌-◌, ◌≤◌, min, Bool, true, false, if◌then◌else◌, List, [], ◌∷◌, length, slice_get, Option, Some, None, arith}
+use Rattle.std.proofs.Common.{◌≡◌, refl, sym, ap, ap₂, ◌∙◌, subst, ℕ, zero, suc, ◌+◌, ◌-◌, ◌≤◌, min, [], ◌∷◌, length, slice_get, Option, Some, None, arith}
 use Rattle.hc_rational.specs.Words.{Rational}
 use Rattle.hc_term.specs.declared.task.Task.{Task}
 use Rattle.hc_term.specs.declared.run.Step.TheVariants.{Silent}
 use Rattle.hc_term.specs.declared.run.Item.{Item}
-use Rattle.hc_term.specs.declared.run.Stop.{Stop}
 use Rattle.hc_term.specs.declared.run.Stop.TheVariants.{Overflow}
 use Rattle.hc_term.specs.declared.run.StretchEnd.{StretchEnd}
 use Rattle.hc_term.specs.declared.run.StretchEnd.TheVariants as ends
@@ -17,10 +16,10 @@ use Rattle.hc_term.specs.Canonical.{Halts, wanting_from, turn_silent, turn_quiet
 use Rattle.hc_term.specs.Event.{Event, Progress, progress, progress_by, spent_by, stopped, idle_end, with_silent, event_after, second_part, silent_items, event_by, event_of}
 use Rattle.hc_term.specs.Laws.{BeginsWith, CanonicalByEvents}
 use Rattle.hc_term.proofs.Places.{get-set_same}
-use Rattle.hc_term.proofs.Wanting.{active-wants, least-set, Wanting, wanting_from-wanting}
+use Rattle.hc_term.proofs.Wanting.{active-wants, least-set, wanting_from-wanting}
 use Rattle.hc_term.proofs.Offering.{active-offers}
 use Rattle.hc_term.proofs.Stretches.{replaced_back, replaced_twice, idle_end-unfit, Stretches, progress-stretches}
-use Rattle.hc_term.proofs.Events.{length-silent_items}
+use Rattle.hc_term.proofs.EventRuns.{length-silent_items}
 use Rattle.hc_term.proofs.Quiet.{quiet-set}
 use Rattle.hc_term.proofs.Courses.{led, course_then, then-after, second_part-then}
 

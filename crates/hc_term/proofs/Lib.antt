@@ -8,7 +8,7 @@ pub mod Places
 pub mod Offering
 pub mod Commute
 pub mod Stretches
-pub mod Events
+pub mod EventRuns
 pub mod Quiet
 pub mod Courses
 pub mod Leading

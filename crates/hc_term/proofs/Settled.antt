@@ -1,5 +1,5 @@
 -- An event that sets no stop leaves no channel ready, and none is ready at the opening.
-use Rattle.std.proofs.Common.{◌≡◌, refl, ap, subst, sym, ℕ, zero, suc, ◌+◌, List, [], ◌∷◌, map, length, slice_get, Option, Some, None, inl}
+use Rattle.std.proofs.Common.{◌≡◌, refl, ap, subst, sym, ℕ, zero, suc, ◌+◌, List, [], ◌∷◌, map, length, Option, Some, None, inl}
 use Rattle.hc_rational.specs.Words.{Rational, zero_ℚ}
 use Rattle.hc_term.specs.declared.stmt.Stmt.{Stmt}
 use Rattle.hc_term.specs.declared.system.Process.{Process}
@@ -12,8 +12,8 @@ use Rattle.hc_term.specs.declared.model.Meeting.{Meeting}
 use Rattle.hc_term.specs.declared.model.Configuration.{Configuration}
 use Rattle.hc_term.specs.Value.{Store}
 use Rattle.hc_term.specs.Offers.{post_at, post}
-use Rattle.hc_term.specs.Posts.{Passing, NoBound, AtHorizon, TooLarge, Took, gift, numbered, sender, receiver, meeting_on, meeting_from}
-use Rattle.hc_term.specs.Step.{opening, opening_of, ready, passing, posts}
+use Rattle.hc_term.specs.Posts.{Passing, NoBound, AtHorizon, TooLarge, Took, gift, numbered, sender, meeting_from}
+use Rattle.hc_term.specs.Step.{opening_of, ready, passing}
 use Rattle.hc_term.specs.Event.{Event, last_part_by, meetings_by, meetings, second_part, event_of}
 use Rattle.hc_term.specs.Laws.{EventsEndQuiet, OpeningIsQuiet}
 use Rattle.hc_term.proofs.Quiet.{none_first_of, none_meeting_by, delays_keep_quiet}

@@ -1,6 +1,6 @@
 use Rattle.hc_term.proofs.Turns.{canonical_is_behaviour, goes_on_or_stops}
 use Rattle.hc_term.proofs.Commute.{silent_steps_commute, silent_and_comm_commute}
-use Rattle.hc_term.proofs.Events.{event_is_run}
+use Rattle.hc_term.proofs.EventRuns.{event_is_run}
 use Rattle.hc_term.proofs.Quiet.{delays_keep_quiet}
 use Rattle.hc_term.proofs.laws.runs.Goals as goal
 
