@@ -1,10 +1,8 @@
 -- An event is a piece of a run, and the stop that it sets holds at its end.
-use Rattle.std.proofs.Common.{◌≡◌, refl, sym, ap, subst, ℕ, zero, suc, ◌+◌, ◌-◌, ◌≤◌, ◌<◌, min, List, [], ◌∷◌, ◌++◌, length, Option, Some, None, inl, inr, arith, length-append}
+use Rattle.std.proofs.Common.{◌≡◌, refl, sym, ap, subst, ℕ, zero, suc, ◌+◌, ◌-◌, ◌≤◌, ◌<◌, min, List, [], ◌∷◌, length, Option, Some, None, inl, inr, arith}
 use Rattle.hc_rational.specs.Words.{Rational}
 use Rattle.hc_term.specs.declared.task.Task.{Task}
 use Rattle.hc_term.specs.declared.run.Step.TheVariants.{Comm}
-use Rattle.hc_term.specs.declared.run.Item.{Item}
-use Rattle.hc_term.specs.declared.run.Stop.{Stop}
 use Rattle.hc_term.specs.declared.run.StretchEnd.{StretchEnd}
 use Rattle.hc_term.specs.declared.run.StretchEnd.TheVariants as ends
 use Rattle.hc_term.specs.declared.model.ProcessState.{ProcessState}
@@ -12,18 +10,17 @@ use Rattle.hc_term.specs.declared.model.Meeting.{Meeting}
 use Rattle.hc_term.specs.declared.model.Configuration.{Configuration}
 use Rattle.hc_term.specs.Silent.{Unfit}
 use Rattle.hc_term.specs.Posts.{Passing, NoBound, AtHorizon, TooLarge, Took}
-use Rattle.hc_term.specs.Step.{ready, passing, silent_of, replaced, met, delayed, Leads}
-use Rattle.hc_term.specs.Event.{Progress, progress, Event, still, event_after, stop_of_passing, stop_after, last_part_by, meetings_by, meetings, second_part, silent_items, event_by, event_of, EndsWell}
+use Rattle.hc_term.specs.Step.{ready, passing, silent_of, replaced, met, delayed}
+use Rattle.hc_term.specs.Event.{Progress, progress, Event, stop_of_passing, stop_after, last_part_by, meetings_by, meetings, second_part, silent_items, event_by, event_of, EndsWell}
 use Rattle.hc_term.specs.Laws.{EventIsRun}
+use Rattle.hc_term.proofs.Pieces.{Piece, no_steps, piece_after, piece_next}
 use Rattle.hc_term.proofs.Ready.{ready-steps}
-use Rattle.hc_term.proofs.Turns.{ended_by-stops, leads_on}
+use Rattle.hc_term.proofs.Turns.{ended_by-stops}
 use Rattle.hc_term.proofs.Stretches.{Stretches, progress-stretches}
 
 -- the event is a piece of a run from c where there is room for so many steps
-record Runs (t : Task) (room : ℕ) (c : Configuration) (e : Event) : Type 0 where
-  leads : Leads t c e.items e.end
-  within : length e.items ≤ room
-  ends : EndsWell t room (length e.items) e.end e.stop
+abbrev Runs : Task → ℕ → Configuration → Event → Type 0
+Runs t room c e = Piece t room c e.items e.end e.stop
 
 -- ---- the delay at the end
 
@@ -39,57 +36,35 @@ stop_after-ends : (t : Task) (n : ℕ) (c : Configuration) → EndsWell t (suc n
 stop_after-ends t zero c = inl (refl, refl)
 stop_after-ends t (suc n) c = stop_of_passing-ends t (suc (suc n)) 1 c (passing t c) refl (omega arith)
 
-still-runs : (t : Task) (n : ℕ) (c : Configuration) (stop : Option Stop) → EndsWell t n 0 c stop → Runs t n c (still c stop)
-still-runs t n c stop h = record { leads = refl; within = omega arith; ends = h }
-
 last_part-runs : (t : Task) (n : ℕ) (c : Configuration) (o : Option Passing) → passing t c ≡ o → Runs t (suc n) c (last_part_by n t c o)
 last_part-runs t n c (Some (Took d)) e = record {
   leads = (refl, (delayed d c, (e, refl), refl));
   within = omega arith;
   ends = stop_after-ends t n (delayed d c);
 }
-last_part-runs t n c (Some TooLarge) e = still-runs t (suc n) c _ (inr (omega arith, e))
-last_part-runs t n c (Some NoBound) e = still-runs t (suc n) c _ (stop_of_passing-ends t (suc n) 0 c (Some NoBound) e (omega arith))
-last_part-runs t n c (Some AtHorizon) e = still-runs t (suc n) c _ (stop_of_passing-ends t (suc n) 0 c (Some AtHorizon) e (omega arith))
-last_part-runs t n c None e = still-runs t (suc n) c None (omega arith)
+last_part-runs t n c (Some TooLarge) e = no_steps t (suc n) c _ (inr (omega arith, e))
+last_part-runs t n c (Some NoBound) e = no_steps t (suc n) c _ (stop_of_passing-ends t (suc n) 0 c (Some NoBound) e (omega arith))
+last_part-runs t n c (Some AtHorizon) e = no_steps t (suc n) c _ (stop_of_passing-ends t (suc n) 0 c (Some AtHorizon) e (omega arith))
+last_part-runs t n c None e = no_steps t (suc n) c None (omega arith)
 
 -- ---- the steps before it
-
--- what is well ended stays so with k more steps before it
-ends_later : (t : Task) (k n m : ℕ) (end : Configuration) (stop : Option Stop) → EndsWell t n m end stop → EndsWell t (k + n) (k + m) end stop
-ends_later t k n m end None h = omega (arith, h)
-ends_later t k n m end (Some stop) (inl h) = inl (ap (λ i. k + i) h.0, h.1)
-ends_later t k n m end (Some stop) (inr h) = inr (omega (arith, h.0), h.1)
-
--- an event after other steps
-after-runs : (t : Task) (n : ℕ) (c mid : Configuration) (is : List Item) (e : Event) → Leads t c is mid → Runs t n mid e →
-    Runs t (length is + n) c (event_after is e)
-after-runs t n c mid is e h r =
-    let both : length (is ++ e.items) ≡ length is + length e.items = length-append is e.items in
-    record {
-      leads = leads_on t c mid e.end is e.items h r.leads;
-      within = omega (arith, both, r.within);
-      ends = subst (λ (m : ℕ). EndsWell t (length is + n) m e.end e.stop) (sym both) (ends_later t (length is) n (length e.items) e.end e.stop r.ends);
-    }
 
 meetings_by-runs : (t : Task) (n : ℕ) (c : Configuration) (last : Event) (o : Option Meeting) → ready t c ≡ o →
     ((d : Configuration) → Runs t n d (meetings n t d)) → Runs t (suc n) c last → Runs t (suc n) c (meetings_by c (meetings n t) last o)
 meetings_by-runs t n c last None e ih h = h
 meetings_by-runs t n c last (Some m) e ih h =
-    let one : 1 + n ≡ suc n = omega arith in
-    let is : List Item = record { at = c.clock; step = Comm m.channel m.value } ∷ [] in
-    subst (λ (k : ℕ). Runs t k c (event_after is (meetings n t (met m c)))) one
-    (after-runs t n c (met m c) is (meetings n t (met m c)) (refl, (met m c, ready-steps t c m e, refl)) (ih (met m c)))
+    let later = meetings n t (met m c) in
+    piece_next t n c (met m c) later.end (Comm m.channel m.value) later.items later.stop (ready-steps t c m e) (ih (met m c))
 
 meetings-runs : (t : Task) (n : ℕ) (c : Configuration) → Runs t n c (meetings n t c)
-meetings-runs t zero c = still-runs t zero c _ (inl (refl, refl))
+meetings-runs t zero c = no_steps t zero c _ (inl (refl, refl))
 meetings-runs t (suc n) c =
     meetings_by-runs t n c (last_part_by n t c (passing t c)) (ready t c) refl (meetings-runs t n) (last_part-runs t n c (passing t c) refl)
 
 second_part-runs : (t : Task) (n p : ℕ) (c : Configuration) (end : StretchEnd) → (end ≡ ends.Unfit → silent_of t c p ≡ Unfit) →
     Runs t n c (second_part n t p c end)
-second_part-runs t zero p c end h = still-runs t zero c _ (inl (refl, refl))
-second_part-runs t (suc n) p c ends.Unfit h = still-runs t (suc n) c _ (inr (omega arith, h refl))
+second_part-runs t zero p c end h = no_steps t zero c _ (inl (refl, refl))
+second_part-runs t (suc n) p c ends.Unfit h = no_steps t (suc n) c _ (inr (omega arith, h refl))
 second_part-runs t (suc n) p c (ends.Logged v) h = meetings-runs t (suc n) c
 second_part-runs t (suc n) p c ends.Waits h = meetings-runs t (suc n) c
 second_part-runs t (suc n) p c ends.Ended h = meetings-runs t (suc n) c
@@ -108,12 +83,11 @@ event_by-runs t room n p c g least h =
     let left = room - length g.logs in
     let e = second_part left t p mid g.end in
     let all : length is + left ≡ room = omega (arith, length-silent_items c.clock p g.logs, h.within) in
-    subst (λ (k : ℕ). Runs t k c (event_after is e)) all
-    (after-runs t left c mid is e h.leads (second_part-runs t left p mid g.end h.unfit))
+    piece_after t room left c mid e.end is e.items e.stop all h.leads (second_part-runs t left p mid g.end h.unfit)
 
 pub event_is_run : EventIsRun
 event_is_run room t p c q at =
     let n = min 4096 room in
     let r = event_by-runs t room n p c (progress n t.seed p c.clock q) (omega arith) (progress-stretches t p n c q at) in
-    subst (λ (o : Option ProcessState). let e = event_of room t p c o in Leads t c e.items e.end × (length e.items ≤ room) × EndsWell t room (length e.items) e.end e.stop)
-    (sym at) (r.leads, r.within, r.ends)
+    let whole = subst (λ (o : Option ProcessState). Runs t room c (event_of room t p c o)) (sym at) r in
+    (whole.leads, whole.within, whole.ends)

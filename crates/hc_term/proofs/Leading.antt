@@ -16,7 +16,7 @@ use Rattle.hc_term.specs.Canonical.{Halts, wanting_from, turn_silent, turn_quiet
 use Rattle.hc_term.specs.Event.{Event, Progress, progress, progress_by, spent_by, stopped, idle_end, with_silent, event_after, second_part, silent_items, event_by, event_of}
 use Rattle.hc_term.specs.Laws.{BeginsWith, CanonicalByEvents}
 use Rattle.hc_term.proofs.Places.{get-set_same}
-use Rattle.hc_term.proofs.Wanting.{active-wants, least-set, wanting_from-wanting}
+use Rattle.hc_term.proofs.Wanting.{active-wants, least-set, least-wants}
 use Rattle.hc_term.proofs.Offering.{active-offers}
 use Rattle.hc_term.proofs.Stretches.{replaced_back, replaced_twice, idle_end-unfit, Stretches, progress-stretches}
 use Rattle.hc_term.proofs.EventRuns.{length-silent_items}
@@ -144,11 +144,9 @@ begins-with room t c e h = record {
 
 pub canonical_by_events : CanonicalByEvents
 canonical_by_events room t p c quiet least =
-    let w = wanting_from-wanting 0 c.processes p least in
-    let same : p ≡ p - 0 = omega arith in
-    let at : slice_get c.processes p ≡ Some w.process = ap (slice_get c.processes) same ∙ w.at in
+    let w = least-wants c.processes p least in
     let n = min 4096 room in
-    let h = progress-stretches t p n c w.process at in
-    let b = progress-begins t p n c w.process at (λ i. record { quiet = quiet; least = least }) in
-    subst (λ (o : Option ProcessState). BeginsWith room t c (event_of room t p c o)) (sym at)
+    let h = progress-stretches t p n c w.process w.there in
+    let b = progress-begins t p n c w.process w.there (λ i. record { quiet = quiet; least = least }) in
+    subst (λ (o : Option ProcessState). BeginsWith room t c (event_of room t p c o)) (sym w.there)
     (begins-with room t c _ (event_by-then t room n p c (progress n t.seed p c.clock w.process) (omega arith) h b))

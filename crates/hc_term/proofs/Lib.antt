@@ -1,10 +1,11 @@
 pub mod Sizes
 pub mod Ruled
 pub mod Used
+pub mod Places
 pub mod Wanting
 pub mod Ready
+pub mod Pieces
 pub mod Turns
-pub mod Places
 pub mod Offering
 pub mod Commute
 pub mod Stretches

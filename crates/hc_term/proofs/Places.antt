@@ -1,5 +1,5 @@
--- Changes of different processes in a list of them.
-use Rattle.std.proofs.Common.{◌≡◌, ◌≢◌, refl, sym, ap, ℕ, zero, suc, List, [], ◌∷◌, slice_get, slice_set, Some}
+-- Places of a list: changes at different places, at one place, and what a search finds.
+use Rattle.std.proofs.Common.{◌≡◌, ◌≢◌, refl, sym, ap, subst, ℕ, zero, suc, ◌+◌, ◌-◌, ◌≤◌, List, [], ◌∷◌, slice_get, slice_set, Option, Some, arith}
 use Rattle.hc_term.specs.declared.model.ProcessState.{ProcessState}
 use Rattle.hc_term.specs.Step.{changed}
 
@@ -51,3 +51,26 @@ module _ {A : Type 0} where
   set_back [] p x e = refl
   set_back (y ∷ xs) zero x e = let same : y ≡ x = cc in ap (λ z. z ∷ xs) (sym same)
   set_back (y ∷ xs) (suc p) x e = ap (λ l. y ∷ l) (set_back xs p x e)
+
+-- ---- the place of what a search from a number on finds
+
+module _ {A : Type 0} (P : Option A → Type 0) where
+  -- P holds of what stands at number k of a list that begins with number `from`
+  pub record StandsAt (from : ℕ) (xs : List A) (k : ℕ) : Type 0 where
+    pub stands : P (slice_get xs (k - from))
+    pub behind : from ≤ k
+
+  pub stands_here : (from : ℕ) (x : A) (xs : List A) → P (Some x) → StandsAt from (x ∷ xs) from
+  stands_here from x xs h =
+      let none : from - from ≡ 0 = omega arith in
+      record { stands = subst (λ (n : ℕ). P (slice_get (x ∷ xs) n)) (sym none) h; behind = omega arith }
+
+  pub stands_later : (from k : ℕ) (x : A) (xs : List A) → StandsAt (from + 1) xs k → StandsAt from (x ∷ xs) k
+  stands_later from k x xs h =
+      let next : k - from ≡ suc (k - (from + 1)) = omega (arith, h.behind) in
+      record { stands = subst (λ (n : ℕ). P (slice_get (x ∷ xs) n)) (sym next) h.stands; behind = omega (arith, h.behind) }
+
+  pub stands_at : (xs : List A) (k : ℕ) → StandsAt 0 xs k → P (slice_get xs k)
+  stands_at xs k h =
+      let same : k - 0 ≡ k = omega arith in
+      subst (λ (n : ℕ). P (slice_get xs n)) same h.stands

@@ -1,5 +1,5 @@
 -- The meeting that is found on a list of posts is one that may happen.
-use Rattle.std.proofs.Common.{◌≡◌, refl, sym, ap, ◌∙◌, subst, ℕ, zero, suc, ◌+◌, ◌-◌, ◌≤◌, ◌<◌, Bool, true, false, if◌then◌else◌, List, [], ◌∷◌, length, slice_get, Option, Some, None, arith}
+use Rattle.std.proofs.Common.{◌≡◌, refl, ap, ◌∙◌, subst, ℕ, zero, suc, ◌+◌, ◌<◌, Bool, true, false, if◌then◌else◌, List, [], ◌∷◌, length, slice_get, Option, Some, None, arith}
 use Rattle.hc_rational.specs.Words.{Rational}
 use Rattle.hc_term.specs.declared.task.Task.{Task}
 use Rattle.hc_term.specs.declared.run.Step.TheVariants.{Comm}
@@ -8,63 +8,35 @@ use Rattle.hc_term.specs.declared.model.Meeting.{Meeting}
 use Rattle.hc_term.specs.declared.model.Configuration.{Configuration}
 use Rattle.hc_term.specs.Posts.{first_of, gift, wishes, numbered, sender, receiver, meeting_by, meeting_on, meeting_from}
 use Rattle.hc_term.specs.Step.{posts, ready, met, GivesAt, WishesAt, StepTo}
+use Rattle.hc_term.proofs.Places.{StandsAt, stands_here, stands_later, stands_at}
 
--- ---- the sender
+-- ---- the ends
 
--- the process sends the value on channel c, in a list that begins with number `from`
-record Sends (c from : ℕ) (ps : List Post) (s : ℕ × Rational) : Type 0 where
-  gives : GivesAt c s.1 (slice_get ps (s.0 - from))
-  behind : from ≤ s.0
-
-sends_later : (c from : ℕ) (q : Post) (qs : List Post) (s : ℕ × Rational) → Sends c (from + 1) qs s → Sends c from (q ∷ qs) s
-sends_later c from q qs s h =
-    let e : s.0 - from ≡ suc (s.0 - (from + 1)) = omega (arith, h.behind) in
-    record {
-      gives = subst (λ (n : ℕ). GivesAt c s.1 (slice_get (q ∷ qs) n)) (sym e) h.gives;
-      behind = omega (arith, h.behind);
-    }
-
-sends_here : (c from : ℕ) (q : Post) (qs : List Post) (v : Rational) → gift c q.offers ≡ Some v → Sends c from (q ∷ qs) (from, v)
-sends_here c from q qs v h =
-    let none : from - from ≡ 0 = omega arith in
-    record { gives = subst (λ (n : ℕ). GivesAt c v (slice_get (q ∷ qs) n)) (sym none) h; behind = omega arith }
+-- the process with this number sends this value on channel c
+abbrev Sends : ℕ → ℕ → List Post → ℕ × Rational → Type 0
+Sends c from ps s = StandsAt (GivesAt c s.1) from ps s.0
 
 sends_next : (c from : ℕ) (q : Post) (qs : List Post) (s : ℕ × Rational) (g : Option Rational) → gift c q.offers ≡ g →
     (sender c (from + 1) qs ≡ Some s → Sends c (from + 1) qs s) →
     first_of (numbered from g) (sender c (from + 1) qs) ≡ Some s → Sends c from (q ∷ qs) s
 sends_next c from q qs s (Some v) h ih e =
     let same : (from, v) ≡ s = cc in
-    subst (λ x. Sends c from (q ∷ qs) x) same (sends_here c from q qs v h)
-sends_next c from q qs s None h ih e = sends_later c from q qs s (ih e)
+    subst (λ x. Sends c from (q ∷ qs) x) same (stands_here (GivesAt c v) from q qs h)
+sends_next c from q qs s None h ih e = stands_later (GivesAt c s.1) from s.0 q qs (ih e)
 
 sender-sends : (c from : ℕ) (ps : List Post) (s : ℕ × Rational) → sender c from ps ≡ Some s → Sends c from ps s
 sender-sends c from [] s e = cc
 sender-sends c from (q ∷ qs) s e = sends_next c from q qs s (gift c q.offers) refl (sender-sends c (from + 1) qs s) e
 
--- ---- the receiver
-
-record Receives (c from : ℕ) (ps : List Post) (r : ℕ) : Type 0 where
-  takes : WishesAt c (slice_get ps (r - from))
-  behind : from ≤ r
-
-receives_later : (c from : ℕ) (q : Post) (qs : List Post) (r : ℕ) → Receives c (from + 1) qs r → Receives c from (q ∷ qs) r
-receives_later c from q qs r h =
-    let e : r - from ≡ suc (r - (from + 1)) = omega (arith, h.behind) in
-    record {
-      takes = subst (λ (n : ℕ). WishesAt c (slice_get (q ∷ qs) n)) (sym e) h.takes;
-      behind = omega (arith, h.behind);
-    }
-
 receives_next : (c from : ℕ) (q : Post) (qs : List Post) (r : ℕ) (b : Bool) → wishes c q.offers ≡ b →
-    (receiver c (from + 1) qs ≡ Some r → Receives c (from + 1) qs r) →
-    (if b then Some from else receiver c (from + 1) qs) ≡ Some r → Receives c from (q ∷ qs) r
+    (receiver c (from + 1) qs ≡ Some r → StandsAt (WishesAt c) (from + 1) qs r) →
+    (if b then Some from else receiver c (from + 1) qs) ≡ Some r → StandsAt (WishesAt c) from (q ∷ qs) r
 receives_next c from q qs r true h ih e =
     let same : from ≡ r = cc in
-    let none : r - from ≡ 0 = omega (arith, same) in
-    record { takes = subst (λ (n : ℕ). WishesAt c (slice_get (q ∷ qs) n)) (sym none) h; behind = omega (arith, same) }
-receives_next c from q qs r false h ih e = receives_later c from q qs r (ih e)
+    subst (λ k. StandsAt (WishesAt c) from (q ∷ qs) k) same (stands_here (WishesAt c) from q qs h)
+receives_next c from q qs r false h ih e = stands_later (WishesAt c) from r q qs (ih e)
 
-receiver-receives : (c from : ℕ) (ps : List Post) (r : ℕ) → receiver c from ps ≡ Some r → Receives c from ps r
+receiver-receives : (c from : ℕ) (ps : List Post) (r : ℕ) → receiver c from ps ≡ Some r → StandsAt (WishesAt c) from ps r
 receiver-receives c from [] r e = cc
 receiver-receives c from (q ∷ qs) r e = receives_next c from q qs r (wishes c q.offers) refl (receiver-receives c (from + 1) qs r) e
 
@@ -78,19 +50,11 @@ record Joins (ps : List Post) (m : Meeting) : Type 0 where
 meeting_by-joins : (c : ℕ) (ps : List Post) (m : Meeting) (s : Option (ℕ × Rational)) (r : Option ℕ) →
     sender c 0 ps ≡ s → receiver c 0 ps ≡ r → meeting_by c s r ≡ Some m → (m.channel ≡ c) × Joins ps m
 meeting_by-joins c ps m (Some s) (Some r) e f h =
-    let sends = sender-sends c 0 ps s e in
-    let receives = receiver-receives c 0 ps r f in
     let made : Meeting = record { channel = c; sender = s.0; receiver = r; value = s.1 } in
     let same : made ≡ m = cc in
-    let s_at : s.0 - 0 ≡ s.0 = omega arith in
-    let r_at : r - 0 ≡ r = omega arith in
-    subst (λ (x : Meeting). (x.channel ≡ c) × Joins ps x) same (
-      refl,
-      record {
-        gives = subst (λ (n : ℕ). GivesAt c s.1 (slice_get ps n)) s_at sends.gives;
-        takes = subst (λ (n : ℕ). WishesAt c (slice_get ps n)) r_at receives.takes;
-      },
-    )
+    let gives = stands_at (GivesAt c s.1) ps s.0 (sender-sends c 0 ps s e) in
+    let takes = stands_at (WishesAt c) ps r (receiver-receives c 0 ps r f) in
+    subst (λ (x : Meeting). (x.channel ≡ c) × Joins ps x) same (refl, record { gives = gives; takes = takes })
 meeting_by-joins c ps m (Some s) None e f h = cc
 meeting_by-joins c ps m None r e f h = cc
 

@@ -1,19 +1,19 @@
 -- What a configuration does next is one of its steps or its stops, and so the canonical run is a run.
-use Rattle.std.proofs.Common.{◌≡◌, refl, sym, ap, ◌∙◌, subst, ℕ, zero, suc, ◌+◌, ◌-◌, ◌≤◌, ◌<◌, Bool, true, false, if◌then◌else◌, List, [], ◌∷◌, ◌++◌, length, length-append, slice_get, Option, Some, None, ◌⊎◌, inl, inr, arith}
+use Rattle.std.proofs.Common.{◌≡◌, refl, sym, ap, ◌∙◌, ℕ, zero, suc, ◌+◌, ◌-◌, Bool, true, false, if◌then◌else◌, length, slice_get, Option, Some, None, ◌⊎◌, inl, inr, arith}
 use Rattle.hc_term.specs.declared.task.Task.{Task}
 use Rattle.hc_term.specs.declared.run.Step.{Step}
-use Rattle.hc_term.specs.declared.run.Item.{Item}
 use Rattle.hc_term.specs.declared.run.Stop.{Stop}
 use Rattle.hc_term.specs.declared.run.Stop.TheVariants.{Terminated, Deadlock, Limit}
 use Rattle.hc_term.specs.declared.model.Meeting.{Meeting}
 use Rattle.hc_term.specs.declared.model.Configuration.{Configuration}
 use Rattle.hc_term.specs.Silent.{Outcome, Idle, Unfit, Did}
 use Rattle.hc_term.specs.Posts.{Passing, NoBound, AtHorizon, TooLarge, Took}
-use Rattle.hc_term.specs.Step.{opening, ready, rests, all_ended, passing, passing_by, passing_quiet, silent_by, silent_of, StepTo, Leads}
-use Rattle.hc_term.specs.Stop.{StopsAt, Stops}
+use Rattle.hc_term.specs.Step.{opening, ready, rests, all_ended, passing, passing_by, passing_quiet, silent_by, silent_of, StepTo}
+use Rattle.hc_term.specs.Stop.{StopsAt}
 use Rattle.hc_term.specs.Canonical.{Turn, Goes, Halts, wanting_from, turn_silent, turn_passing, turn_quiet, turn_by, turn, Course, course_by, course}
 use Rattle.hc_term.specs.Laws.{CanonicalIsBehaviour, GoesOnOrStops, RunIsPrefix}
-use Rattle.hc_term.proofs.Wanting.{Wanting, silent-not_idle, wanting_from-wanting, rests_where_none_wants}
+use Rattle.hc_term.proofs.Wanting.{silent-not_idle, WantsAt, least-wants, rests_where_none_wants}
+use Rattle.hc_term.proofs.Pieces.{Piece, no_steps, piece_after, piece_next}
 use Rattle.hc_term.proofs.Ready.{ready-steps}
 
 -- ---- one turn
@@ -62,15 +62,12 @@ passing_at : (t : Task) (c : Configuration) → ready t c ≡ None → rests c.p
 passing_at t c quiet r =
     ap (λ o. passing_by o (rests c.processes) (passing_quiet t c)) quiet ∙ ap (λ b. passing_by None b (passing_quiet t c)) r
 
-wanting-not_idle : (t : Task) (c : Configuration) (p : ℕ) → Wanting 0 c.processes p → silent_of t c p ≡ Idle → ⊥
-wanting-not_idle t c p w e =
-    let same : p ≡ p - 0 = omega arith in
-    let at : slice_get c.processes p ≡ Some w.process = ap (slice_get c.processes) same ∙ w.at in
-    silent-not_idle t.seed p c.clock w.process w.wanting (sym (ap (silent_by t c.clock p) at) ∙ e)
+wanting-not_idle : (t : Task) (c : Configuration) (p : ℕ) → WantsAt (slice_get c.processes p) → silent_of t c p ≡ Idle → ⊥
+wanting-not_idle t c p w e = silent-not_idle t.seed p c.clock w.process w.wanting (sym (ap (silent_by t c.clock p) w.there) ∙ e)
 
 turn_quiet-sound : (t : Task) (c : Configuration) (o : Option ℕ) → ready t c ≡ None → wanting_from 0 c.processes ≡ o → Sound t c (turn_quiet t c o)
 turn_quiet-sound t c (Some p) quiet e =
-    turn_silent-sound t c p (silent_of t c p) refl (wanting-not_idle t c p (wanting_from-wanting 0 c.processes p e))
+    turn_silent-sound t c p (silent_of t c p) refl (wanting-not_idle t c p (least-wants c.processes p e))
 turn_quiet-sound t c None quiet e =
     turn_passing-sound t c (passing_quiet t c) (passing_at t c quiet (rests_where_none_wants 0 c.processes e))
 
@@ -91,65 +88,27 @@ goes_on_or_stops t c = sound-goes_or_stops t c (turn t c) (turn-sound t c)
 
 -- ---- the course from a configuration
 
--- what leads on from the end of a piece of a run
-pub leads_on : (t : Task) (c mid end : Configuration) (is js : List Item) → Leads t c is mid → Leads t mid js end → Leads t c (is ++ js) end
-leads_on t c mid end [] js h k = subst (λ (x : Configuration). Leads t x js end) h k
-leads_on t c mid end (i ∷ is) js h k = (h.0, (h.1.0, h.1.1, leads_on t h.1.0 mid end is js h.1.2 k))
-
--- the course is a piece of a run of at most n steps, and ends with a stop
-record Follows (t : Task) (c : Configuration) (n : ℕ) (k : Course) : Type 0 where
-  leads : Leads t c k.items k.end
-  within : length k.items ≤ n
-  stops : ((length k.items ≡ n) × (k.stop ≡ Limit)) ⊎ ((length k.items < n) × StopsAt t k.end k.stop)
-
-stops_later : (t : Task) (n m : ℕ) (end : Configuration) (stop : Stop) →
-    ((m ≡ n) × (stop ≡ Limit)) ⊎ ((m < n) × StopsAt t end stop) → ((suc m ≡ suc n) × (stop ≡ Limit)) ⊎ ((suc m < suc n) × StopsAt t end stop)
-stops_later t n m end stop (inl h) = inl (ap suc h.0, h.1)
-stops_later t n m end stop (inr h) = inr (omega (arith, h.0), h.1)
-
-course_by-follows : (n : ℕ) (t : Task) (c : Configuration) (o : Turn) → Sound t c o → ((next : Configuration) → Follows t next n (course n t next)) →
-    Follows t c (suc n) (course_by c (course n t) o)
-course_by-follows n t c (Halts stop) h ih = record { leads = refl; within = omega arith; stops = inr (omega arith, h) }
-course_by-follows n t c (Goes step next) h ih =
-    let more = ih next in
+course_by-piece : (n : ℕ) (t : Task) (c : Configuration) (o : Turn) → Sound t c o →
+    ((next : Configuration) → let k = course n t next in Piece t n next k.items k.end (Some k.stop)) →
+    let k = course_by c (course n t) o in Piece t (suc n) c k.items k.end (Some k.stop)
+course_by-piece n t c (Halts stop) h ih = no_steps t (suc n) c (Some stop) (inr (omega arith, h))
+course_by-piece n t c (Goes step next) h ih =
     let k : Course = course n t next in
-    record {
-      leads = (refl, (next, h, more.leads));
-      within = omega (arith, more.within);
-      stops = stops_later t n (length k.items) k.end k.stop more.stops;
-    }
+    piece_next t n c next k.end step k.items (Some k.stop) h (ih next)
 
-course-follows : (n : ℕ) (t : Task) (c : Configuration) → Follows t c n (course n t c)
-course-follows zero t c = record { leads = refl; within = omega arith; stops = inl (refl, refl) }
-course-follows (suc n) t c = course_by-follows n t c (turn t c) (turn-sound t c) (course-follows n t)
+course-piece : (n : ℕ) (t : Task) (c : Configuration) → let k = course n t c in Piece t n c k.items k.end (Some k.stop)
+course-piece zero t c = no_steps t zero c (Some Limit) (inl (refl, refl))
+course-piece (suc n) t c = course_by-piece n t c (turn t c) (turn-sound t c) (course-piece n t)
 
 pub canonical_is_behaviour : CanonicalIsBehaviour
 canonical_is_behaviour t =
-    let f = course-follows t.limit t (opening t) in
-    record { run = record { leads = f.leads; within = f.within }; stops = f.stops }
-
--- ---- each run begins a behaviour
-
--- a stop after so many more steps is one after all of them
-stops_on : (t : Task) (before more : ℕ) (end : Configuration) (stop : Stop) → before ≤ t.limit →
-    ((more ≡ t.limit - before) × (stop ≡ Limit)) ⊎ ((more < t.limit - before) × StopsAt t end stop) → Stops t (before + more) end stop
-stops_on t before more end stop within (inl h) = inl (omega (arith, h.0), h.1)
-stops_on t before more end stop within (inr h) = inr (omega (arith, h.0), h.1)
+    let k = course-piece t.limit t (opening t) in
+    record { run = record { leads = k.leads; within = k.within }; stops = k.ends }
 
 pub run_is_prefix : RunIsPrefix
 run_is_prefix t items end r =
     let left = t.limit - length items in
     let k : Course = course left t end in
-    let f = course-follows left t end in
-    let both = length-append items k.items in (
-      k.items,
-      k.end,
-      k.stop,
-      record {
-        run = record {
-          leads = leads_on t (opening t) end k.end items k.items r.leads f.leads;
-          within = omega (arith, both, f.within, r.within);
-        };
-        stops = subst (λ (n : ℕ). Stops t n k.end k.stop) (sym both) (stops_on t (length items) (length k.items) k.end k.stop r.within f.stops);
-      },
-    )
+    let all : length items + left ≡ t.limit = omega (arith, r.within) in
+    let whole = piece_after t t.limit left (opening t) end k.end items k.items (Some k.stop) all r.leads (course-piece left t end) in
+    (k.items, k.end, k.stop, record { run = record { leads = whole.leads; within = whole.within }; stops = whole.ends })

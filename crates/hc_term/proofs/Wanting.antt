@@ -1,5 +1,5 @@
 -- A process that wants a silent step has one, or its working values don't fit.
-use Rattle.std.proofs.Common.{◌≡◌, refl, sym, ap, ◌∙◌, subst, ℕ, zero, suc, ◌+◌, ◌-◌, ◌≤◌, Bool, true, false, not, ◌&&◌, if◌then◌else◌, List, [], ◌∷◌, slice_get, slice_set, Option, Some, None, arith}
+use Rattle.std.proofs.Common.{◌≡◌, refl, sym, ap, ◌∙◌, subst, ℕ, zero, suc, ◌+◌, Bool, true, false, not, ◌&&◌, if◌then◌else◌, List, [], ◌∷◌, slice_get, slice_set, Option, Some, None, arith}
 use Rattle.hc_rational.specs.Words.{Rational}
 use Rattle.hc_term.specs.declared.stmt.Stmt.{Stmt, out-Stmt}
 use Rattle.hc_term.specs.declared.stmt.Stmt.TheOpen.{Stmt-F}
@@ -10,6 +10,7 @@ use Rattle.hc_term.specs.Process.{Layer, bound, is_due, wants, wants_at}
 use Rattle.hc_term.specs.Silent.{Idle, Did, if_fit, goes_on, going_step, silent_at, silent}
 use Rattle.hc_term.specs.Step.{rests}
 use Rattle.hc_term.specs.Canonical.{wanting_from}
+use Rattle.hc_term.proofs.Places.{StandsAt, stands_here, stands_later, stands_at}
 
 -- ---- a wanted step is there
 
@@ -63,40 +64,26 @@ active-wants seed p clock c h = by_test (wants c) refl where
 
 -- ---- the least process that wants one
 
--- the process at this place wants a silent step, in a list that begins with number `from`
-pub record Wanting (from : ℕ) (ps : List ProcessState) (p : ℕ) : Type 0 where
+-- there is a process there, and it wants a silent step
+pub record WantsAt (o : Option ProcessState) : Type 0 where
   pub process : ProcessState
-  pub at : slice_get ps (p - from) ≡ Some process
+  pub there : o ≡ Some process
   pub wanting : wants process ≡ true
-  pub behind : from ≤ p
-
-wanting_later : (from : ℕ) (q : ProcessState) (qs : List ProcessState) (p : ℕ) → Wanting (from + 1) qs p → Wanting from (q ∷ qs) p
-wanting_later from q qs p w =
-    let e : p - from ≡ suc (p - (from + 1)) = omega (arith, w.behind) in
-    record {
-      process = w.process;
-      at = subst (λ (n : ℕ). slice_get (q ∷ qs) n ≡ Some w.process) (sym e) w.at;
-      wanting = w.wanting;
-      behind = omega (arith, w.behind);
-    }
 
 wanting_next : (from : ℕ) (q : ProcessState) (qs : List ProcessState) (p : ℕ) (b : Bool) → wants q ≡ b →
-    (wanting_from (from + 1) qs ≡ Some p → Wanting (from + 1) qs p) →
-    (if b then Some from else wanting_from (from + 1) qs) ≡ Some p → Wanting from (q ∷ qs) p
+    (wanting_from (from + 1) qs ≡ Some p → StandsAt WantsAt (from + 1) qs p) →
+    (if b then Some from else wanting_from (from + 1) qs) ≡ Some p → StandsAt WantsAt from (q ∷ qs) p
 wanting_next from q qs p true h ih e =
     let same : from ≡ p = cc in
-    let none : p - from ≡ 0 = omega (arith, same) in
-    record {
-      process = q;
-      at = subst (λ (n : ℕ). slice_get (q ∷ qs) n ≡ Some q) (sym none) refl;
-      wanting = h;
-      behind = omega (arith, same);
-    }
-wanting_next from q qs p false h ih e = wanting_later from q qs p (ih e)
+    subst (λ k. StandsAt WantsAt from (q ∷ qs) k) same (stands_here WantsAt from q qs (record { process = q; there = refl; wanting = h }))
+wanting_next from q qs p false h ih e = stands_later WantsAt from p q qs (ih e)
 
-pub wanting_from-wanting : (from : ℕ) (ps : List ProcessState) (p : ℕ) → wanting_from from ps ≡ Some p → Wanting from ps p
+wanting_from-wanting : (from : ℕ) (ps : List ProcessState) (p : ℕ) → wanting_from from ps ≡ Some p → StandsAt WantsAt from ps p
 wanting_from-wanting from [] p e = cc
 wanting_from-wanting from (q ∷ qs) p e = wanting_next from q qs p (wants q) refl (wanting_from-wanting (from + 1) qs p) e
+
+pub least-wants : (ps : List ProcessState) (p : ℕ) → wanting_from 0 ps ≡ Some p → WantsAt (slice_get ps p)
+least-wants ps p e = stands_at WantsAt ps p (wanting_from-wanting 0 ps p e)
 
 rests_next : (from : ℕ) (q : ProcessState) (qs : List ProcessState) (b : Bool) →
     (wanting_from (from + 1) qs ≡ None → rests qs ≡ true) →
