@@ -56,7 +56,8 @@ pub no_more-trans : (a b c : List Stmt) → UsesNoMore a b → UsesNoMore b c �
 no_more-trans a b c h k = record { kept = λ sending ch e. h.kept sending ch (k.kept sending ch e) }
 
 pub no_more-rest : (head : Stmt) (rest : List Stmt) → UsesNoMore (head ∷ rest) rest
-no_more-rest head rest = record { kept = λ sending c e. or_right (uses sending c head) (any_use sending c rest) e }
+no_more-rest head rest =
+    record { kept = λ sending c e. or_right (uses sending c head) (any_use sending c rest) e }
 
 -- the statements are inside one of this layer
 pub record Inside (l : Layer) (ss : List Stmt) : Type 0 where
@@ -67,11 +68,11 @@ pub no_more-front : (head : Stmt) (rest front back : List Stmt) (l : Layer) → 
     UsesNoMore (head ∷ rest) back → UsesNoMore (head ∷ rest) (front ++ back)
 no_more-front head rest front back l opened h k = record {
   kept = λ sending c e.
-      ⊎_elim
-      (λ f. or_left (uses sending c head) (any_use sending c rest)
-      (uses_is sending c head ∙ ap (uses_here sending c) opened ∙ h.used sending c f))
+      let head_uses = uses_is sending c head ∙ ap (uses_here sending c) opened in
+      let parts = sym (list_any-append (uses sending c) front back) ∙ e in
+      ⊎_elim (λ f. or_left (uses sending c head) (any_use sending c rest) (head_uses ∙ h.used sending c f))
       (k.kept sending c)
-      (or_cases (any_use sending c front) (any_use sending c back) (sym (list_any-append (uses sending c) front back) ∙ e));
+      (or_cases (any_use sending c front) (any_use sending c back) parts);
 }
 
 -- ---- a silent step
@@ -82,49 +83,55 @@ Keeps before Idle = Unit {0}
 Keeps before Unfit = Unit {0}
 Keeps before (Did logged q) = UsesNoMore before q.todo
 
-keeps_if_fit : (before : List Stmt) (b : Bool) (logged : Option Rational) (q : ProcessState) → UsesNoMore before q.todo →
-    Keeps before (if_fit b (Did logged q))
+keeps_if_fit : (before : List Stmt) (b : Bool) (logged : Option Rational) (q : ProcessState) →
+    UsesNoMore before q.todo → Keeps before (if_fit b (Did logged q))
 keeps_if_fit before true logged q h = h
 keeps_if_fit before false logged q h = tt
 
-inside_either : (l : Layer) (first second : List Stmt) (b : Bool) →
-    ((sending : Bool) (c : ℕ) → (any_use sending c first || any_use sending c second) ≡ uses_here sending c l) →
-    Inside l (if b then first else second)
-inside_either l first second true h =
-    record { used = λ sending c e. sym (h sending c) ∙ or_left (any_use sending c first) (any_use sending c second) e }
-inside_either l first second false h =
-    record { used = λ sending c e. sym (h sending c) ∙ or_right (any_use sending c first) (any_use sending c second) e }
+-- a statement of this layer uses the channels of both and no others
+abbrev UsesBoth : Layer → List Stmt → List Stmt → Type 0
+UsesBoth l ss rs = (sending : Bool) (c : ℕ) → (any_use sending c ss || any_use sending c rs) ≡ uses_here sending c l
+
+inside_either : (l : Layer) (ss rs : List Stmt) (b : Bool) → UsesBoth l ss rs → Inside l (if b then ss else rs)
+inside_either l ss rs true h =
+    record { used = λ sending c e. sym (h sending c) ∙ or_left (any_use sending c ss) (any_use sending c rs) e }
+inside_either l ss rs false h =
+    record { used = λ sending c e. sym (h sending c) ∙ or_right (any_use sending c ss) (any_use sending c rs) e }
 
 module _ (head : Stmt) (rest : List Stmt) where
-  either-keeps : (l : Layer) (first second : List Stmt) (b : Bool) → out-Stmt head ≡ l →
-      ((sending : Bool) (c : ℕ) → (any_use sending c first || any_use sending c second) ≡ uses_here sending c l) →
-      UsesNoMore (head ∷ rest) ((if b then first else second) ++ rest)
-  either-keeps l first second b e h =
-      no_more-front head rest (if b then first else second) rest l e (inside_either l first second b h) (no_more-rest head rest)
+  either-keeps : (l : Layer) (ss rs : List Stmt) (b : Bool) → out-Stmt head ≡ l → UsesBoth l ss rs →
+      UsesNoMore (head ∷ rest) ((if b then ss else rs) ++ rest)
+  either-keeps l ss rs b e h =
+      no_more-front head rest (if b then ss else rs) rest l e (inside_either l ss rs b h) (no_more-rest head rest)
 
   again-keeps : (l : Layer) (body : List Stmt) → out-Stmt head ≡ l →
-      ((sending : Bool) (c : ℕ) → any_use sending c body ≡ uses_here sending c l) → UsesNoMore (head ∷ rest) (body ++ head ∷ rest)
+      ((sending : Bool) (c : ℕ) → any_use sending c body ≡ uses_here sending c l) →
+      UsesNoMore (head ∷ rest) (body ++ head ∷ rest)
   again-keeps l body e h =
-      no_more-front head rest body (head ∷ rest) l e (record { used = λ sending c u. sym (h sending c) ∙ u }) (no_more-same (head ∷ rest))
+      no_more-front head rest body (head ∷ rest) l e (record { used = λ sending c u. sym (h sending c) ∙ u })
+      (no_more-same (head ∷ rest))
 
   loop-keeps : (test : Cond) (body : List Stmt) (b : Bool) → out-Stmt head ≡ Stmt-F.Loop test body →
       UsesNoMore (head ∷ rest) (if b then body ++ head ∷ rest else rest)
   loop-keeps test body true e = again-keeps (Stmt-F.Loop test body) body e (λ sending c. refl)
   loop-keeps test body false e = no_more-rest head rest
 
-  fit : (b : Bool) (logged : Option Rational) (q : ProcessState) → UsesNoMore (head ∷ rest) q.todo → Keeps (head ∷ rest) (if_fit b (Did logged q))
+  fit : (b : Bool) (logged : Option Rational) (q : ProcessState) → UsesNoMore (head ∷ rest) q.todo →
+      Keeps (head ∷ rest) (if_fit b (Did logged q))
   fit b logged q h = keeps_if_fit (head ∷ rest) b logged q h
 
-  going-keeps : (seed p : ℕ) (clock : Rational) (c : ProcessState) (l : Layer) → out-Stmt head ≡ l → UsesNoMore (head ∷ rest) c.todo →
-      Keeps (head ∷ rest) (going_step seed p clock c head rest l)
+  going-keeps : (seed p : ℕ) (clock : Rational) (c : ProcessState) (l : Layer) → out-Stmt head ≡ l →
+      UsesNoMore (head ∷ rest) c.todo → Keeps (head ∷ rest) (going_step seed p clock c head rest l)
   going-keeps seed p clock c Stmt-F.Skip e h = no_more-rest head rest
   going-keeps seed p clock c (Stmt-F.Assign x a) e h = fit _ _ _ (no_more-rest head rest)
   going-keeps seed p clock c (Stmt-F.Log a) e h = fit _ _ _ (no_more-rest head rest)
   going-keeps seed p clock c (Stmt-F.If test first second) e h =
-      fit _ _ _ (either-keeps (Stmt-F.If test first second) first second (holds c.store test) e (λ sending k. refl))
+      fit _ _ _
+      (either-keeps (Stmt-F.If test first second) first second (holds c.store test) e (λ sending k. refl))
   going-keeps seed p clock c (Stmt-F.Pick left right) e h =
       either-keeps (Stmt-F.Pick left right) left right (picks_left seed p c.choices) e (λ sending k. refl)
-  going-keeps seed p clock c (Stmt-F.Forever body) e h = again-keeps (Stmt-F.Forever body) body e (λ sending k. refl)
+  going-keeps seed p clock c (Stmt-F.Forever body) e h =
+      again-keeps (Stmt-F.Forever body) body e (λ sending k. refl)
   going-keeps seed p clock c (Stmt-F.Loop test body) e h = fit _ _ _ (loop-keeps test body (holds c.store test) e)
   going-keeps seed p clock c (Stmt-F.Wait time) e h = fit _ _ _ h
   going-keeps seed p clock c (Stmt-F.Io io) e h = fit _ _ _ h

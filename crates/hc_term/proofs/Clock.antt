@@ -26,7 +26,8 @@ length_of_delay-most most (Some b) = (lesser_is b most).second
 -- a delay of at most the rest to the horizon leads to the horizon at most
 rest-keeps : (clock horizon d : Rational) → d ≤ℚ horizon -ℚ clock → clock +ℚ d ≤ℚ horizon
 rest-keeps clock horizon d h =
-    subst (λ q. q ≤ℚ horizon) (+ℚ_comm d clock) (subst (λ q. d +ℚ clock ≤ℚ q) (-ℚ-+ℚ horizon clock) (+ℚ-≤ℚ d (horizon -ℚ clock) clock h))
+    subst (λ q. q ≤ℚ horizon) (+ℚ_comm d clock)
+    (subst (λ q. d +ℚ clock ≤ℚ q) (-ℚ-+ℚ horizon clock) (+ℚ-≤ℚ d (horizon -ℚ clock) clock h))
 
 module _ (clock horizon : Rational) (ps : List Post) where
   taken : (d by : Rational) (b : Bool) → (if b then Took d else TooLarge) ≡ Took by → d ≡ by
@@ -40,7 +41,9 @@ module _ (clock horizon : Rational) (ps : List Post) where
   below-most side.Equal d e = cc
   below-most side.Greater d e = cc
 
-  took-most : (b : Bool) (d : Rational) → (if b then passing_below (rank clock horizon) clock horizon ps else NoBound) ≡ Took d → d ≤ℚ horizon -ℚ clock
+  took-most : (b : Bool) (d : Rational) →
+      (if b then passing_below (rank clock horizon) clock horizon ps else NoBound) ≡ Took d →
+      d ≤ℚ horizon -ℚ clock
   took-most true d e = below-most (rank clock horizon) d e
   took-most false d e = cc
 
@@ -48,19 +51,22 @@ module _ (clock horizon : Rational) (ps : List Post) where
   for-at d true e = cc
   for-at d false e = cc
 
-  below-at : (o : Ordering) → rank clock horizon ≡ o → passing_below o clock horizon ps ≡ AtHorizon → horizon ≤ℚ clock
+  below-at : (o : Ordering) → rank clock horizon ≡ o → passing_below o clock horizon ps ≡ AtHorizon →
+      horizon ≤ℚ clock
   below-at side.Less r e = absurd (for-at _ _ e)
   below-at side.Equal r e = subst (λ q. horizon ≤ℚ q) (sym ((rank_is clock horizon).equal.0 r)) (≤ℚ_refl horizon)
   below-at side.Greater r e = ≤ℚ-from_<ℚ horizon clock ((rank_is clock horizon).greater.0 r)
 
-  at-horizon : (b : Bool) → (if b then passing_below (rank clock horizon) clock horizon ps else NoBound) ≡ AtHorizon → horizon ≤ℚ clock
+  at-horizon : (b : Bool) →
+      (if b then passing_below (rank clock horizon) clock horizon ps else NoBound) ≡ AtHorizon → horizon ≤ℚ clock
   at-horizon true e = below-at (rank clock horizon) refl e
   at-horizon false e = cc
 
 -- ---- a run
 
 module _ (t : Task) where
-  step-keeps : (step : Step) (c new : Configuration) → StepTo t c step new → c.clock ≤ℚ t.horizon → new.clock ≤ℚ t.horizon
+  step-keeps : (step : Step) (c new : Configuration) → StepTo t c step new → c.clock ≤ℚ t.horizon →
+      new.clock ≤ℚ t.horizon
   step-keeps (Silent p logged) c new s h = subst (λ (i : Configuration). i.clock ≤ℚ t.horizon) (sym s.2) h
   step-keeps (Comm channel value) c new s h = subst (λ (i : Configuration). i.clock ≤ℚ t.horizon) (sym s.5) h
   step-keeps (Delay d) c new s h =
@@ -68,7 +74,8 @@ module _ (t : Task) where
       subst (λ (i : Configuration). i.clock ≤ℚ t.horizon) (sym s.1)
       (rest-keeps c.clock t.horizon d (took-most c.clock t.horizon (posts c) (is_timed (posts c)) d took))
 
-  run-keeps : (items : List Item) (c new : Configuration) → Leads t c items new → c.clock ≤ℚ t.horizon → new.clock ≤ℚ t.horizon
+  run-keeps : (items : List Item) (c new : Configuration) → Leads t c items new → c.clock ≤ℚ t.horizon →
+      new.clock ≤ℚ t.horizon
   run-keeps [] c new l h = subst (λ (i : Configuration). i.clock ≤ℚ t.horizon) (sym l) h
   run-keeps (i ∷ is) c new l h = run-keeps is l.1.0 new l.1.2 (step-keeps i.step c l.1.0 l.1.1 h)
 
@@ -79,4 +86,5 @@ clock_keeps_horizon t items c run =
 pub horizon_is_reached : HorizonIsReached
 horizon_is_reached t items c run e =
     let at = (passing-quiet t c AtHorizon e).what in
-    ≤ℚ_antisymm c.clock t.horizon (clock_keeps_horizon t items c run) (at-horizon c.clock t.horizon (posts c) (is_timed (posts c)) at)
+    ≤ℚ_antisymm c.clock t.horizon (clock_keeps_horizon t items c run)
+    (at-horizon c.clock t.horizon (posts c) (is_timed (posts c)) at)

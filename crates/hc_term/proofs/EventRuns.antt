@@ -36,33 +36,39 @@ stop_after-ends : (t : Task) (n : ℕ) (c : Configuration) → EndsWell t (suc n
 stop_after-ends t zero c = inl (refl, refl)
 stop_after-ends t (suc n) c = stop_of_passing-ends t (suc (suc n)) 1 c (passing t c) refl (omega arith)
 
-last_part-runs : (t : Task) (n : ℕ) (c : Configuration) (o : Option Passing) → passing t c ≡ o → Runs t (suc n) c (last_part_by n t c o)
+last_part-runs : (t : Task) (n : ℕ) (c : Configuration) (o : Option Passing) → passing t c ≡ o →
+    Runs t (suc n) c (last_part_by n t c o)
 last_part-runs t n c (Some (Took d)) e = record {
   leads = (refl, (delayed d c, (e, refl), refl));
   within = omega arith;
   ends = stop_after-ends t n (delayed d c);
 }
 last_part-runs t n c (Some TooLarge) e = no_steps t (suc n) c _ (inr (omega arith, e))
-last_part-runs t n c (Some NoBound) e = no_steps t (suc n) c _ (stop_of_passing-ends t (suc n) 0 c (Some NoBound) e (omega arith))
-last_part-runs t n c (Some AtHorizon) e = no_steps t (suc n) c _ (stop_of_passing-ends t (suc n) 0 c (Some AtHorizon) e (omega arith))
+last_part-runs t n c (Some NoBound) e =
+    no_steps t (suc n) c _ (stop_of_passing-ends t (suc n) 0 c (Some NoBound) e (omega arith))
+last_part-runs t n c (Some AtHorizon) e =
+    no_steps t (suc n) c _ (stop_of_passing-ends t (suc n) 0 c (Some AtHorizon) e (omega arith))
 last_part-runs t n c None e = no_steps t (suc n) c None (omega arith)
 
 -- ---- the steps before it
 
 meetings_by-runs : (t : Task) (n : ℕ) (c : Configuration) (last : Event) (o : Option Meeting) → ready t c ≡ o →
-    ((d : Configuration) → Runs t n d (meetings n t d)) → Runs t (suc n) c last → Runs t (suc n) c (meetings_by c (meetings n t) last o)
+    ((d : Configuration) → Runs t n d (meetings n t d)) → Runs t (suc n) c last →
+    Runs t (suc n) c (meetings_by c (meetings n t) last o)
 meetings_by-runs t n c last None e ih h = h
 meetings_by-runs t n c last (Some m) e ih h =
     let later = meetings n t (met m c) in
-    piece_next t n c (met m c) later.end (Comm m.channel m.value) later.items later.stop (ready-steps t c m e) (ih (met m c))
+    piece_next t n c (met m c) later.end (Comm m.channel m.value) later.items later.stop (ready-steps t c m e)
+    (ih (met m c))
 
 meetings-runs : (t : Task) (n : ℕ) (c : Configuration) → Runs t n c (meetings n t c)
 meetings-runs t zero c = no_steps t zero c _ (inl (refl, refl))
 meetings-runs t (suc n) c =
-    meetings_by-runs t n c (last_part_by n t c (passing t c)) (ready t c) refl (meetings-runs t n) (last_part-runs t n c (passing t c) refl)
+    meetings_by-runs t n c (last_part_by n t c (passing t c)) (ready t c) refl (meetings-runs t n)
+    (last_part-runs t n c (passing t c) refl)
 
-second_part-runs : (t : Task) (n p : ℕ) (c : Configuration) (end : StretchEnd) → (end ≡ ends.Unfit → silent_of t c p ≡ Unfit) →
-    Runs t n c (second_part n t p c end)
+second_part-runs : (t : Task) (n p : ℕ) (c : Configuration) (end : StretchEnd) →
+    (end ≡ ends.Unfit → silent_of t c p ≡ Unfit) → Runs t n c (second_part n t p c end)
 second_part-runs t zero p c end h = no_steps t zero c _ (inl (refl, refl))
 second_part-runs t (suc n) p c ends.Unfit h = no_steps t (suc n) c _ (inr (omega arith, h refl))
 second_part-runs t (suc n) p c (ends.Logged v) h = meetings-runs t (suc n) c
@@ -72,22 +78,26 @@ second_part-runs t (suc n) p c ends.Spent h = meetings-runs t (suc n) c
 
 -- ---- the event
 
-pub length-silent_items : (clock : Rational) (p : ℕ) (ls : List (Option Rational)) → length (silent_items clock p ls) ≡ length ls
+pub length-silent_items : (clock : Rational) (p : ℕ) (ls : List (Option Rational)) →
+    length (silent_items clock p ls) ≡ length ls
 length-silent_items clock p [] = refl
 length-silent_items clock p (l ∷ ls) = ap suc (length-silent_items clock p ls)
 
-event_by-runs : (t : Task) (room n p : ℕ) (c : Configuration) (g : Progress) → n ≤ room → Stretches t c p n g → Runs t room c (event_by room t p c g)
+event_by-runs : (t : Task) (room n p : ℕ) (c : Configuration) (g : Progress) → n ≤ room → Stretches t c p n g →
+    Runs t room c (event_by room t p c g)
 event_by-runs t room n p c g least h =
     let is = silent_items c.clock p g.logs in
     let mid = replaced c p g.next in
     let left = room - length g.logs in
     let e = second_part left t p mid g.end in
     let all : length is + left ≡ room = omega (arith, length-silent_items c.clock p g.logs, h.within) in
-    piece_after t room left c mid e.end is e.items e.stop all h.leads (second_part-runs t left p mid g.end h.unfit)
+    piece_after t room left c mid e.end is e.items e.stop all h.leads
+    (second_part-runs t left p mid g.end h.unfit)
 
 pub event_is_run : EventIsRun
 event_is_run room t p c q at =
     let n = min 4096 room in
-    let r = event_by-runs t room n p c (progress n t.seed p c.clock q) (omega arith) (progress-stretches t p n c q at) in
+    let g = progress n t.seed p c.clock q in
+    let r = event_by-runs t room n p c g (omega arith) (progress-stretches t p n c q at) in
     let whole = subst (λ (o : Option ProcessState). Runs t room c (event_of room t p c o)) (sym at) r in
     (whole.leads, whole.within, whole.ends)

@@ -25,7 +25,8 @@ none_at_end : (b : Bool) (os : List Offer) → Offers (if b then [] else os) →
 none_at_end true os h = absurd (h refl)
 none_at_end false os h = refl
 
-not_due : (s : Store) (left : Rational) (l : Layer) → Offers (offers_here s (bound_here s left l) l) → is_due (bound_here s left l) ≡ false
+not_due : (s : Store) (left : Rational) (l : Layer) → Offers (offers_here s (bound_here s left l) l) →
+    is_due (bound_here s left l) ≡ false
 not_due s left Stmt-F.Skip h = refl
 not_due s left (Stmt-F.Assign x a) h = refl
 not_due s left (Stmt-F.Log a) h = refl
@@ -48,11 +49,13 @@ idle_at seed p clock (head ∷ rest) store choices (Arrived left) h =
     let c : ProcessState = record { todo = head ∷ rest; store = store; choices = choices; mark = Arrived left } in
     ap (λ b. if b then goes_on c rest else Idle) (not_due store left (out-Stmt head) h)
 
-pub offering-idle : (seed p : ℕ) (clock : Rational) (c : ProcessState) → Offers (post clock c).offers → silent seed p clock c ≡ Idle
+pub offering-idle : (seed p : ℕ) (clock : Rational) (c : ProcessState) → Offers (post clock c).offers →
+    silent seed p clock c ≡ Idle
 offering-idle seed p clock c = idle_at seed p clock c.todo c.store c.choices c.mark
 
 -- a process with a silent step offers nothing
-pub active-offers : (seed p : ℕ) (clock : Rational) (c : ProcessState) → (silent seed p clock c ≡ Idle → ⊥) → (post clock c).offers ≡ []
+pub active-offers : (seed p : ℕ) (clock : Rational) (c : ProcessState) → (silent seed p clock c ≡ Idle → ⊥) →
+    (post clock c).offers ≡ []
 active-offers seed p clock c h = by_offers (post clock c).offers refl where
   by_offers : (os : List Offer) → (post clock c).offers ≡ os → (post clock c).offers ≡ []
   by_offers [] e = e
@@ -75,8 +78,8 @@ module _ (t : Task) (clock : Rational) (p : ℕ) where
   giving-idle c v (q ∷ qs) zero h = offering-idle t.seed p clock q (gift-offers c v (post clock q).offers h)
   giving-idle c v (q ∷ qs) (suc k) h = giving-idle c v qs k h
 
-  wishing-idle : (c : ℕ) (qs : List ProcessState) (k : ℕ) →
-      WishesAt c (slice_get (map (post clock) qs) k) → silent_by t clock p (slice_get qs k) ≡ Idle
+  wishing-idle : (c : ℕ) (qs : List ProcessState) (k : ℕ) → WishesAt c (slice_get (map (post clock) qs) k) →
+      silent_by t clock p (slice_get qs k) ≡ Idle
   wishing-idle c [] k h = absurd h
   wishing-idle c (q ∷ qs) zero h = offering-idle t.seed p clock q (wishes-offers c (post clock q).offers h)
   wishing-idle c (q ∷ qs) (suc k) h = wishing-idle c qs k h

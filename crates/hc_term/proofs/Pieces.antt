@@ -18,18 +18,20 @@ module _ (t : Task) where
   pub no_steps : (n : ℕ) (c : Configuration) (stop : Option Stop) → EndsWell t n 0 c stop → Piece t n c [] c stop
   no_steps n c stop h = record { leads = refl; within = omega arith; ends = h }
 
-  leads_on : (c mid end : Configuration) (is js : List Item) → Leads t c is mid → Leads t mid js end → Leads t c (is ++ js) end
+  leads_on : (c mid end : Configuration) (is js : List Item) → Leads t c is mid → Leads t mid js end →
+      Leads t c (is ++ js) end
   leads_on c mid end [] js h k = subst (λ (x : Configuration). Leads t x js end) h k
   leads_on c mid end (i ∷ is) js h k = (h.0, (h.1.0, h.1.1, leads_on h.1.0 mid end is js h.1.2 k))
 
-  ends_later : (k n m : ℕ) (end : Configuration) (stop : Option Stop) → EndsWell t n m end stop → EndsWell t (k + n) (k + m) end stop
+  ends_later : (k n m : ℕ) (end : Configuration) (stop : Option Stop) → EndsWell t n m end stop →
+      EndsWell t (k + n) (k + m) end stop
   ends_later k n m end None h = omega (arith, h)
   ends_later k n m end (Some stop) (inl h) = inl (ap (λ i. k + i) h.0, h.1)
   ends_later k n m end (Some stop) (inr h) = inr (omega (arith, h.0), h.1)
 
   -- a piece after other steps
-  pub piece_after : (room n : ℕ) (c mid end : Configuration) (is js : List Item) (stop : Option Stop) → length is + n ≡ room →
-      Leads t c is mid → Piece t n mid js end stop → Piece t room c (is ++ js) end stop
+  pub piece_after : (room n : ℕ) (c mid end : Configuration) (is js : List Item) (stop : Option Stop) →
+      length is + n ≡ room → Leads t c is mid → Piece t n mid js end stop → Piece t room c (is ++ js) end stop
   piece_after room n c mid end is js stop all h k =
       let both : length (is ++ js) ≡ length is + length js = length-append is js in
       let later = ends_later (length is) n (length js) end stop k.ends in
@@ -41,7 +43,9 @@ module _ (t : Task) where
       }
 
   -- a piece after one step
-  pub piece_next : (n : ℕ) (c mid end : Configuration) (step : Step) (js : List Item) (stop : Option Stop) → StepTo t c step mid →
-      Piece t n mid js end stop → Piece t (suc n) c (record { at = c.clock; step = step } ∷ js) end stop
+  pub piece_next : (n : ℕ) (c mid end : Configuration) (step : Step) (js : List Item) (stop : Option Stop) →
+      StepTo t c step mid → Piece t n mid js end stop →
+      Piece t (suc n) c (record { at = c.clock; step = step } ∷ js) end stop
   piece_next n c mid end step js stop h k =
-      piece_after (suc n) n c mid end (record { at = c.clock; step = step } ∷ []) js stop (omega arith) (refl, (mid, h, refl)) k
+      piece_after (suc n) n c mid end (record { at = c.clock; step = step } ∷ []) js stop (omega arith)
+      (refl, (mid, h, refl)) k

@@ -42,7 +42,8 @@ module _ (f : ProcessState → ProcessState) where
 -- ---- one place
 
 module _ {A : Type 0} where
-  pub get-set_same : (xs : List A) (p : ℕ) (old x : A) → slice_get xs p ≡ Some old → slice_get (slice_set xs p x) p ≡ Some x
+  pub get-set_same : (xs : List A) (p : ℕ) (old x : A) → slice_get xs p ≡ Some old →
+      slice_get (slice_set xs p x) p ≡ Some x
   get-set_same [] p old x e = cc
   get-set_same (y ∷ xs) zero old x e = refl
   get-set_same (y ∷ xs) (suc p) old x e = get-set_same xs p old x e
@@ -68,7 +69,8 @@ module _ {A : Type 0} (P : Option A → Type 0) where
   pub stands_later : (from k : ℕ) (x : A) (xs : List A) → StandsAt (from + 1) xs k → StandsAt from (x ∷ xs) k
   stands_later from k x xs h =
       let next : k - from ≡ suc (k - (from + 1)) = omega (arith, h.behind) in
-      record { stands = subst (λ (n : ℕ). P (slice_get (x ∷ xs) n)) (sym next) h.stands; behind = omega (arith, h.behind) }
+      let there = subst (λ (n : ℕ). P (slice_get (x ∷ xs) n)) (sym next) h.stands in
+      record { stands = there; behind = omega (arith, h.behind) }
 
   pub stands_at : (xs : List A) (k : ℕ) → StandsAt 0 xs k → P (slice_get xs k)
   stands_at xs k h =

@@ -72,7 +72,8 @@ module _ (s₀ s₁ : Store) (r₀ r₁ : Rates) where
 
 -- ---- one process
 
-at_end : (b₀ b₁ : Bool) (os ns : List Offer) → b₀ ≡ false → NoMore os ns → NoMore (if b₀ then [] else os) (if b₁ then [] else ns)
+at_end : (b₀ b₁ : Bool) (os ns : List Offer) → b₀ ≡ false → NoMore os ns →
+    NoMore (if b₀ then [] else os) (if b₁ then [] else ns)
 at_end true b₁ os ns e h = absurd (true≢false e)
 at_end false true os ns e h = no_more_none os
 at_end false false os ns e h = h
@@ -91,7 +92,8 @@ here-moves s left d (Stmt-F.Wait time) e = no_more_none []
 here-moves s left d (Stmt-F.Io io) e = no_more_same _
 here-moves s left d (Stmt-F.Choice branches) e = no_more_same _
 here-moves s left d (Stmt-F.Evolve rates domain branches) e =
-    at_end _ _ _ _ e (offers_of-moves s (after s (rates_in rates s) d) (rates_in rates s) (rates_in rates (after s (rates_in rates s) d)) branches)
+    let s₁ = after s (rates_in rates s) d in
+    at_end _ _ _ _ e (offers_of-moves s s₁ (rates_in rates s) (rates_in rates s₁) branches)
 
 module _ (k₀ k₁ d : Rational) where
   moved_by_parts : (todo : List Stmt) (store : Store) (choices : ℕ) (mark : Mark) →
@@ -123,7 +125,8 @@ sender-none c p [] (q ∷ qs) h e = absurd h
 sender-none c p (o ∷ ps) (q ∷ qs) h e =
     let parts = first_of-none (numbered p (gift c o.offers)) (sender c (p + 1) ps) e in
     let g = h.0.no_gift c (numbered-none p (gift c o.offers) parts.0) in
-    none_first_of (numbered p (gift c q.offers)) (sender c (p + 1) qs) (ap (numbered p) g) (sender-none c (p + 1) ps qs h.1 parts.1)
+    none_first_of (numbered p (gift c q.offers)) (sender c (p + 1) qs) (ap (numbered p) g)
+    (sender-none c (p + 1) ps qs h.1 parts.1)
 
 wished-none : (b : Bool) (p : ℕ) (o : Option ℕ) → (if b then Some p else o) ≡ None → (b ≡ false) × (o ≡ None)
 wished-none true p o e = cc
@@ -134,14 +137,17 @@ receiver-none c p ps [] h e = refl
 receiver-none c p [] (q ∷ qs) h e = absurd h
 receiver-none c p (o ∷ ps) (q ∷ qs) h e =
     let parts = wished-none (wishes c o.offers) p (receiver c (p + 1) ps) e in
-    ap (λ (b : Bool). if b then Some p else receiver c (p + 1) qs) (h.0.no_wish c parts.0) ∙ receiver-none c (p + 1) ps qs h.1 parts.1
+    ap (λ (b : Bool). if b then Some p else receiver c (p + 1) qs) (h.0.no_wish c parts.0)
+    ∙ receiver-none c (p + 1) ps qs h.1 parts.1
 
-meeting_by-none : (c : ℕ) (s : Option (ℕ × Rational)) (r : Option ℕ) → meeting_by c s r ≡ None → (s ≡ None) ⊎ (r ≡ None)
+meeting_by-none : (c : ℕ) (s : Option (ℕ × Rational)) (r : Option ℕ) → meeting_by c s r ≡ None →
+    (s ≡ None) ⊎ (r ≡ None)
 meeting_by-none c (Some s) (Some r) e = cc
 meeting_by-none c (Some s) None e = inr refl
 meeting_by-none c None r e = inl refl
 
-pub none_meeting_by : (c : ℕ) (s : Option (ℕ × Rational)) (r : Option ℕ) → (s ≡ None) ⊎ (r ≡ None) → meeting_by c s r ≡ None
+pub none_meeting_by : (c : ℕ) (s : Option (ℕ × Rational)) (r : Option ℕ) → (s ≡ None) ⊎ (r ≡ None) →
+    meeting_by c s r ≡ None
 none_meeting_by c s r (inl e) = ap (λ x. meeting_by c x r) e
 none_meeting_by c (Some s) r (inr e) = ap (λ x. meeting_by c (Some s) x) e
 none_meeting_by c None r (inr e) = refl
@@ -152,11 +158,13 @@ meeting_on-none c ps qs h e =
     (⊎_elim (λ s. inl (sender-none c 0 ps qs h s)) (λ r. inr (receiver-none c 0 ps qs h r))
     (meeting_by-none c (sender c 0 ps) (receiver c 0 ps) e))
 
-pub meeting_from-none : (c n : ℕ) (ps qs : List Post) → NoneMore ps qs → meeting_from c n ps ≡ None → meeting_from c n qs ≡ None
+pub meeting_from-none : (c n : ℕ) (ps qs : List Post) → NoneMore ps qs → meeting_from c n ps ≡ None →
+    meeting_from c n qs ≡ None
 meeting_from-none c zero ps qs h e = refl
 meeting_from-none c (suc n) ps qs h e =
     let parts = first_of-none (meeting_on c ps) (meeting_from (c + 1) n ps) e in
-    none_first_of (meeting_on c qs) (meeting_from (c + 1) n qs) (meeting_on-none c ps qs h parts.0) (meeting_from-none (c + 1) n ps qs h parts.1)
+    none_first_of (meeting_on c qs) (meeting_from (c + 1) n qs) (meeting_on-none c ps qs h parts.0)
+    (meeting_from-none (c + 1) n ps qs h parts.1)
 
 -- ---- the law
 
@@ -164,7 +172,8 @@ resting : (b c : Bool) → (not b && c) ≡ true → (b ≡ false) × (c ≡ tru
 resting true c e = cc
 resting false c e = (refl, e)
 
-posts-move : (k₀ k₁ d : Rational) (qs : List ProcessState) → rests qs ≡ true → NoneMore (map (post k₀) qs) (map (post k₁) (map (moved d) qs))
+posts-move : (k₀ k₁ d : Rational) (qs : List ProcessState) → rests qs ≡ true →
+    NoneMore (map (post k₀) qs) (map (post k₁) (map (moved d) qs))
 posts-move k₀ k₁ d [] h = tt
 posts-move k₀ k₁ d (q ∷ qs) h =
     let r = resting (wants q) (rests qs) h in
@@ -187,11 +196,13 @@ posts-set : (clock : Rational) (qs : List ProcessState) (p : ℕ) (x : ProcessSt
     NoneMore (map (post clock) qs) (map (post clock) (slice_set qs p x))
 posts-set clock [] p x e = tt
 posts-set clock (q ∷ qs) zero x e =
-    (subst (λ (os : List Offer). NoMore (post clock q).offers os) (sym e) (no_more_none (post clock q).offers), none_more_same (map (post clock) qs))
+    let os = (post clock q).offers in
+    (subst (λ (ns : List Offer). NoMore os ns) (sym e) (no_more_none os), none_more_same (map (post clock) qs))
 posts-set clock (q ∷ qs) (suc p) x e = (no_more_same (post clock q).offers, posts-set clock qs p x e)
 
 -- a process that offers nothing makes no channel ready
-pub quiet-set : (t : Task) (c : Configuration) (p : ℕ) (x : ProcessState) → (post c.clock x).offers ≡ [] → ready t c ≡ None →
-    ready t (replaced c p x) ≡ None
+pub quiet-set : (t : Task) (c : Configuration) (p : ℕ) (x : ProcessState) → (post c.clock x).offers ≡ [] →
+    ready t c ≡ None → ready t (replaced c p x) ≡ None
 quiet-set t c p x e h =
-    meeting_from-none 0 (length t.system.channels) (posts c) (posts (replaced c p x)) (posts-set c.clock c.processes p x e) h
+    meeting_from-none 0 (length t.system.channels) (posts c) (posts (replaced c p x))
+    (posts-set c.clock c.processes p x e) h

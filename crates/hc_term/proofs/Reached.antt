@@ -1,4 +1,4 @@
--- In what a run reaches, each process still has to do what its body says, so a channel has one sender and one receiver.
+-- In what a run reaches each process keeps to the channels of its body, so a channel has one sender and one receiver.
 use Rattle.std.proofs.Common.{◌≡◌, refl, sym, ap, ◌∙◌, subst, subst₂, ℕ, zero, suc, ◌+◌, ◌≤◌, ◌<◌, Bool, true, false, cond, ◌&&◌, List, [], ◌∷◌, length, map, slice_get, slice_set, Option, Some, None, count_by, arith}
 use Rattle.std.specs.List.{list_any}
 use Rattle.std.proofs.lemmas.Bool.{true≢false, and_parts, and_from, or_left, or_right, not-true, leb-true}
@@ -36,44 +36,51 @@ opening-keeps [] = tt
 opening-keeps (b ∷ bodies) = (no_more-same b.body, opening-keeps bodies)
 
 set-keeps : (bodies : List Process) (qs : List ProcessState) (p : ℕ) (x : ProcessState) →
-    ((q : ProcessState) → slice_get qs p ≡ Some q → UsesNoMore q.todo x.todo) → KeepsBodies bodies qs → KeepsBodies bodies (slice_set qs p x)
+    ((q : ProcessState) → slice_get qs p ≡ Some q → UsesNoMore q.todo x.todo) → KeepsBodies bodies qs →
+    KeepsBodies bodies (slice_set qs p x)
 set-keeps bodies [] p x h k = k
 set-keeps [] (q ∷ qs) p x h k = absurd k
 set-keeps (b ∷ bodies) (q ∷ qs) zero x h k = (no_more-trans b.body q.todo x.todo k.0 (h q refl), k.1)
 set-keeps (b ∷ bodies) (q ∷ qs) (suc p) x h k = (k.0, set-keeps bodies qs p x h k.1)
 
 module _ (f : ProcessState → ProcessState) (h : (q : ProcessState) → UsesNoMore q.todo (f q).todo) where
-  changed-keeps : (bodies : List Process) (qs : List ProcessState) (p : ℕ) → KeepsBodies bodies qs → KeepsBodies bodies (changed f p qs)
+  changed-keeps : (bodies : List Process) (qs : List ProcessState) (p : ℕ) → KeepsBodies bodies qs →
+      KeepsBodies bodies (changed f p qs)
   changed-keeps bodies [] p k = k
   changed-keeps [] (q ∷ qs) p k = absurd k
   changed-keeps (b ∷ bodies) (q ∷ qs) zero k = (no_more-trans b.body q.todo (f q).todo k.0 (h q), k.1)
   changed-keeps (b ∷ bodies) (q ∷ qs) (suc p) k = (k.0, changed-keeps bodies qs p k.1)
 
-  map-keeps : (bodies : List Process) (qs : List ProcessState) → KeepsBodies bodies qs → KeepsBodies bodies (map f qs)
+  map-keeps : (bodies : List Process) (qs : List ProcessState) → KeepsBodies bodies qs →
+      KeepsBodies bodies (map f qs)
   map-keeps bodies [] k = k
   map-keeps [] (q ∷ qs) k = absurd k
   map-keeps (b ∷ bodies) (q ∷ qs) k = (no_more-trans b.body q.todo (f q).todo k.0 (h q), map-keeps bodies qs k.1)
 
 module _ (t : Task) (bodies : List Process) where
-  silent-next : (c : Configuration) (p : ℕ) (logged : Option Rational) (x q : ProcessState) → silent_of t c p ≡ Did logged x →
-      slice_get c.processes p ≡ Some q → UsesNoMore q.todo x.todo
+  silent-next : (c : Configuration) (p : ℕ) (logged : Option Rational) (x q : ProcessState) →
+      silent_of t c p ≡ Did logged x → slice_get c.processes p ≡ Some q → UsesNoMore q.todo x.todo
   silent-next c p logged x q e at =
       let did : silent t.seed p c.clock q ≡ Did logged x = sym (ap (silent_by t c.clock p) at) ∙ e in
       subst (Keeps q.todo) did (silent-keeps t.seed p c.clock q)
 
-  step-keeps : (step : Step) (c new : Configuration) → StepTo t c step new → KeepsBodies bodies c.processes → KeepsBodies bodies new.processes
+  step-keeps : (step : Step) (c new : Configuration) → StepTo t c step new → KeepsBodies bodies c.processes →
+      KeepsBodies bodies new.processes
   step-keeps (Silent p logged) c new s k =
       subst (λ (i : Configuration). KeepsBodies bodies i.processes) (sym s.2)
       (set-keeps bodies c.processes p s.0 (λ q at. silent-next c p logged s.0 q s.1 at) k)
   step-keeps (Comm channel value) c new s k =
       let m = s.0 in
+      let r = received m.channel m.value in
+      let after_r = changed-keeps r (received-no_more m.channel m.value) bodies c.processes m.receiver k in
       subst (λ (i : Configuration). KeepsBodies bodies i.processes) (sym s.5)
-      (changed-keeps (sent m.channel) (sent-no_more m.channel) bodies (changed (received m.channel m.value) m.receiver c.processes) m.sender
-      (changed-keeps (received m.channel m.value) (received-no_more m.channel m.value) bodies c.processes m.receiver k))
+      (changed-keeps (sent m.channel) (sent-no_more m.channel) bodies (changed r m.receiver c.processes) m.sender after_r)
   step-keeps (Delay d) c new s k =
-      subst (λ (i : Configuration). KeepsBodies bodies i.processes) (sym s.1) (map-keeps (moved d) (moved-no_more d) bodies c.processes k)
+      subst (λ (i : Configuration). KeepsBodies bodies i.processes) (sym s.1)
+      (map-keeps (moved d) (moved-no_more d) bodies c.processes k)
 
-  run-keeps : (items : List Item) (c new : Configuration) → Leads t c items new → KeepsBodies bodies c.processes → KeepsBodies bodies new.processes
+  run-keeps : (items : List Item) (c new : Configuration) → Leads t c items new → KeepsBodies bodies c.processes →
+      KeepsBodies bodies new.processes
   run-keeps [] c new h k = subst (λ (i : Configuration). KeepsBodies bodies i.processes) (sym h) k
   run-keeps (i ∷ is) c new h k = run-keeps is h.1.0 new h.1.2 (step-keeps i.step c h.1.0 h.1.1 k)
 
@@ -84,7 +91,8 @@ PassesAt p None = ⊥
 PassesAt p (Some x) = p x ≡ true
 
 module _ {A : Type 0} (p : A → Bool) where
-  pass_both : (q : A → Bool) (xs : List A) (k : ℕ) → PassesAt p (slice_get xs k) → PassesAt q (slice_get xs k) → list_any (λ x. p x && q x) xs ≡ true
+  pass_both : (q : A → Bool) (xs : List A) (k : ℕ) → PassesAt p (slice_get xs k) → PassesAt q (slice_get xs k) →
+      list_any (λ x. p x && q x) xs ≡ true
   pass_both q [] k h l = absurd h
   pass_both q (x ∷ xs) zero h l = or_left (p x && q x) (list_any (λ x. p x && q x) xs) (and_from (p x) (q x) h l)
   pass_both q (x ∷ xs) (suc k) h l = or_right (p x && q x) (list_any (λ x. p x && q x) xs) (pass_both q xs k h l)
@@ -101,7 +109,8 @@ module _ {A : Type 0} (p : A → Bool) where
   counted (x ∷ xs) (suc k) h = omega (arith, count-rest x xs, counted xs k h)
 
   -- where one at most passes, there is one place
-  pass_once : (xs : List A) (i j : ℕ) → count_by p xs ≤ 1 → PassesAt p (slice_get xs i) → PassesAt p (slice_get xs j) → i ≡ j
+  pass_once : (xs : List A) (i j : ℕ) → count_by p xs ≤ 1 → PassesAt p (slice_get xs i) →
+      PassesAt p (slice_get xs j) → i ≡ j
   pass_once [] i j few h l = absurd h
   pass_once (x ∷ xs) zero zero few h l = refl
   pass_once (x ∷ xs) zero (suc j) few h l = absurd (omega (arith, count-pass x xs h, counted xs j l))
@@ -115,7 +124,8 @@ module _ (clock : Rational) (c : ℕ) where
       GivesAt c v (slice_get (map (post clock) qs) k) → PassesAt (is_user true c) (slice_get bodies k)
   giver-uses v bodies [] k h g = absurd g
   giver-uses v [] (q ∷ qs) k h g = absurd h
-  giver-uses v (b ∷ bodies) (q ∷ qs) zero h g = h.0.kept true c (offered-used true c clock q (gift-offered c v (post clock q).offers g))
+  giver-uses v (b ∷ bodies) (q ∷ qs) zero h g =
+      h.0.kept true c (offered-used true c clock q (gift-offered c v (post clock q).offers g))
   giver-uses v (b ∷ bodies) (q ∷ qs) (suc k) h g = giver-uses v bodies qs k h.1 g
 
   wisher-uses : (bodies : List Process) (qs : List ProcessState) (k : ℕ) → KeepsBodies bodies qs →
@@ -133,14 +143,17 @@ all_below-at n k f below e = by_value (f k) refl where
 
 -- in a system that keeps the rules each channel joins two processes
 joined : (t : Task) (c : ℕ) → c < length t.system.channels → is_joined t.system.processes c ≡ true
-joined t c below = all_below-at (length t.system.channels) c (is_joined t.system.processes) below (and_parts _ _ (and_parts _ _ t.system.kept).1).1
+joined t c below =
+    all_below-at (length t.system.channels) c (is_joined t.system.processes) below
+    (and_parts _ _ (and_parts _ _ t.system.kept).1).1
 
 -- the processes that a meeting joins, in what a run reaches
 record Ends (t : Task) (m : Meeting) : Type 0 where
   sends : PassesAt (is_user true m.channel) (slice_get t.system.processes m.sender)
   receives : PassesAt (is_user false m.channel) (slice_get t.system.processes m.receiver)
 
-meeting-ends : (t : Task) (items : List Item) (c : Configuration) (m : Meeting) → Leads t (opening t) items c → Meets m c → Ends t m
+meeting-ends : (t : Task) (items : List Item) (c : Configuration) (m : Meeting) → Leads t (opening t) items c →
+    Meets m c → Ends t m
 meeting-ends t items c m run h =
     let bodies = t.system.processes in
     let kept = run-keeps t bodies items (opening t) c run (opening-keeps bodies) in
@@ -155,7 +168,8 @@ meetings_join_two t items c m run below h same =
     let p = is_user true m.channel in
     let q = is_user false m.channel in
     let ends = meeting-ends t items c m run h in
-    let both = pass_both p q bodies m.sender ends.sends (subst (λ (k : ℕ). PassesAt q (slice_get bodies k)) (sym same) ends.receives) in
+    let receives = subst (λ (k : ℕ). PassesAt q (slice_get bodies k)) (sym same) ends.receives in
+    let both = pass_both p q bodies m.sender ends.sends receives in
     absurd (true≢false (sym both ∙ not-true _ (and_parts _ _ (joined t m.channel below)).1))
 
 one_gift : (c : ℕ) (v w : Rational) (o : Option Post) → GivesAt c v o → GivesAt c w o → v ≡ w
@@ -163,7 +177,8 @@ one_gift c v w None g h = absurd g
 one_gift c v w (Some p) g h = cc
 
 same_parts : (c d s e r f : ℕ) (v w : Rational) → c ≡ d → s ≡ e → r ≡ f → v ≡ w →
-    ◌≡◌ {A = Meeting} (record { channel = c; sender = s; receiver = r; value = v }) (record { channel = d; sender = e; receiver = f; value = w })
+    ◌≡◌ {A = Meeting} (record { channel = c; sender = s; receiver = r; value = v })
+    (record { channel = d; sender = e; receiver = f; value = w })
 same_parts c d s e r f v w h₀ h₁ h₂ h₃ = cc
 
 pub meetings_are_unique : MeetingsAreUnique

@@ -16,8 +16,8 @@ use Rattle.hc_term.proofs.Places.{StandsAt, stands_here, stands_later, stands_at
 abbrev Sends : ℕ → ℕ → List Post → ℕ × Rational → Type 0
 Sends c from ps s = StandsAt (GivesAt c s.1) from ps s.0
 
-sends_next : (c from : ℕ) (q : Post) (qs : List Post) (s : ℕ × Rational) (g : Option Rational) → gift c q.offers ≡ g →
-    (sender c (from + 1) qs ≡ Some s → Sends c (from + 1) qs s) →
+sends_next : (c from : ℕ) (q : Post) (qs : List Post) (s : ℕ × Rational) (g : Option Rational) →
+    gift c q.offers ≡ g → (sender c (from + 1) qs ≡ Some s → Sends c (from + 1) qs s) →
     first_of (numbered from g) (sender c (from + 1) qs) ≡ Some s → Sends c from (q ∷ qs) s
 sends_next c from q qs s (Some v) h ih e =
     let same : (from, v) ≡ s = cc in
@@ -26,7 +26,8 @@ sends_next c from q qs s None h ih e = stands_later (GivesAt c s.1) from s.0 q q
 
 sender-sends : (c from : ℕ) (ps : List Post) (s : ℕ × Rational) → sender c from ps ≡ Some s → Sends c from ps s
 sender-sends c from [] s e = cc
-sender-sends c from (q ∷ qs) s e = sends_next c from q qs s (gift c q.offers) refl (sender-sends c (from + 1) qs s) e
+sender-sends c from (q ∷ qs) s e =
+    sends_next c from q qs s (gift c q.offers) refl (sender-sends c (from + 1) qs s) e
 
 receives_next : (c from : ℕ) (q : Post) (qs : List Post) (r : ℕ) (b : Bool) → wishes c q.offers ≡ b →
     (receiver c (from + 1) qs ≡ Some r → StandsAt (WishesAt c) (from + 1) qs r) →
@@ -36,9 +37,11 @@ receives_next c from q qs r true h ih e =
     subst (λ k. StandsAt (WishesAt c) from (q ∷ qs) k) same (stands_here (WishesAt c) from q qs h)
 receives_next c from q qs r false h ih e = stands_later (WishesAt c) from r q qs (ih e)
 
-receiver-receives : (c from : ℕ) (ps : List Post) (r : ℕ) → receiver c from ps ≡ Some r → StandsAt (WishesAt c) from ps r
+receiver-receives : (c from : ℕ) (ps : List Post) (r : ℕ) → receiver c from ps ≡ Some r →
+    StandsAt (WishesAt c) from ps r
 receiver-receives c from [] r e = cc
-receiver-receives c from (q ∷ qs) r e = receives_next c from q qs r (wishes c q.offers) refl (receiver-receives c (from + 1) qs r) e
+receiver-receives c from (q ∷ qs) r e =
+    receives_next c from q qs r (wishes c q.offers) refl (receiver-receives c (from + 1) qs r) e
 
 -- ---- the meeting
 
@@ -70,12 +73,15 @@ meeting_next c n ps m (Some f) h ih e =
     (omega (arith, j.0), j.1)
 meeting_next c n ps m None h ih e = let j = ih e in (omega (arith, j.0), j.1)
 
-meeting_from-joins : (c n : ℕ) (ps : List Post) (m : Meeting) → meeting_from c n ps ≡ Some m → (m.channel < c + n) × Joins ps m
+meeting_from-joins : (c n : ℕ) (ps : List Post) (m : Meeting) → meeting_from c n ps ≡ Some m →
+    (m.channel < c + n) × Joins ps m
 meeting_from-joins c zero ps m e = cc
-meeting_from-joins c (suc n) ps m e = meeting_next c n ps m (meeting_on c ps) refl (meeting_from-joins (c + 1) n ps m) e
+meeting_from-joins c (suc n) ps m e =
+    meeting_next c n ps m (meeting_on c ps) refl (meeting_from-joins (c + 1) n ps m) e
 
 -- the ready channel may be communicated on
-pub ready-steps : (t : Task) (c : Configuration) (m : Meeting) → ready t c ≡ Some m → StepTo t c (Comm m.channel m.value) (met m c)
+pub ready-steps : (t : Task) (c : Configuration) (m : Meeting) → ready t c ≡ Some m →
+    StepTo t c (Comm m.channel m.value) (met m c)
 ready-steps t c m e =
     let j = meeting_from-joins 0 (length t.system.channels) (posts c) m e in
     (m, refl, refl, omega (arith, j.0), record { gives = j.1.gives; takes = j.1.takes }, refl)

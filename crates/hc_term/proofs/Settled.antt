@@ -24,14 +24,16 @@ module _ (t : Task) where
   abbrev Settles : Event → Type 0
   Settles e = e.stop ≡ None → ready t e.end ≡ None
 
-  last_part-settles : (n : ℕ) (c : Configuration) (o : Option Passing) → ready t c ≡ None → passing t c ≡ o → Settles (last_part_by n t c o)
+  last_part-settles : (n : ℕ) (c : Configuration) (o : Option Passing) → ready t c ≡ None → passing t c ≡ o →
+      Settles (last_part_by n t c o)
   last_part-settles n c (Some (Took d)) h e f = delays_keep_quiet t c d e
   last_part-settles n c (Some TooLarge) h e f = cc
   last_part-settles n c (Some NoBound) h e f = cc
   last_part-settles n c (Some AtHorizon) h e f = cc
   last_part-settles n c None h e f = h
 
-  meetings_by-settles : (n : ℕ) (c : Configuration) (o : Option Meeting) → ready t c ≡ o → ((d : Configuration) → Settles (meetings n t d)) →
+  meetings_by-settles : (n : ℕ) (c : Configuration) (o : Option Meeting) → ready t c ≡ o →
+      ((d : Configuration) → Settles (meetings n t d)) →
       Settles (meetings_by c (meetings n t) (last_part_by n t c (passing t c)) o)
   meetings_by-settles n c None h ih = last_part-settles n c (passing t c) h refl
   meetings_by-settles n c (Some m) h ih = ih _
@@ -50,7 +52,8 @@ module _ (t : Task) where
 
 pub events_end_quiet : EventsEndQuiet
 events_end_quiet room t p c q at =
-    subst (λ (o : Option ProcessState). Settles t (event_of room t p c o)) (sym at) (second_part-settles t _ p _ _)
+    subst (λ (o : Option ProcessState). Settles t (event_of room t p c o)) (sym at)
+    (second_part-settles t _ p _ _)
 
 -- ---- the opening
 
@@ -62,12 +65,15 @@ module _ (clock : Rational) where
   opening-sender : (c p : ℕ) (bodies : List Process) → sender c p (map (post clock) (map opening_of bodies)) ≡ None
   opening-sender c p [] = refl
   opening-sender c p (b ∷ bodies) =
-      none_first_of _ _ (ap (λ os. numbered p (gift c os)) (going-offers (opening_of b).store b.body)) (opening-sender c (p + 1) bodies)
+      none_first_of _ _ (ap (λ os. numbered p (gift c os)) (going-offers (opening_of b).store b.body))
+      (opening-sender c (p + 1) bodies)
 
-  opening-meeting : (c n : ℕ) (bodies : List Process) → meeting_from c n (map (post clock) (map opening_of bodies)) ≡ None
+  opening-meeting : (c n : ℕ) (bodies : List Process) →
+      meeting_from c n (map (post clock) (map opening_of bodies)) ≡ None
   opening-meeting c zero bodies = refl
   opening-meeting c (suc n) bodies =
-      none_first_of _ _ (none_meeting_by c _ _ (inl (opening-sender c 0 bodies))) (opening-meeting (c + 1) n bodies)
+      none_first_of _ _ (none_meeting_by c _ _ (inl (opening-sender c 0 bodies)))
+      (opening-meeting (c + 1) n bodies)
 
 pub opening_is_quiet : OpeningIsQuiet
 opening_is_quiet t = opening-meeting zero_ℚ 0 (length t.system.channels) t.system.processes

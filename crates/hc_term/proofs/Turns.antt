@@ -23,20 +23,23 @@ abbrev Sound : Task → Configuration → Turn → Type 0
 Sound t c (Goes step next) = StepTo t c step next
 Sound t c (Halts stop) = StopsAt t c stop
 
-turn_silent-sound : (t : Task) (c : Configuration) (p : ℕ) (o : Outcome) → silent_of t c p ≡ o → (o ≡ Idle → ⊥) → Sound t c (turn_silent c p o)
+turn_silent-sound : (t : Task) (c : Configuration) (p : ℕ) (o : Outcome) → silent_of t c p ≡ o → (o ≡ Idle → ⊥) →
+    Sound t c (turn_silent c p o)
 turn_silent-sound t c p (Did logged q) e n = (q, e, refl)
 turn_silent-sound t c p Unfit e n = e
 turn_silent-sound t c p Idle e n = absurd (n refl)
 
-ended_by-sound : (t : Task) (c : Configuration) (b : Bool) → all_ended c.processes ≡ b → passing t c ≡ Some NoBound →
-    StopsAt t c (if b then Terminated else Deadlock)
+ended_by-sound : (t : Task) (c : Configuration) (b : Bool) → all_ended c.processes ≡ b →
+    passing t c ≡ Some NoBound → StopsAt t c (if b then Terminated else Deadlock)
 ended_by-sound t c true h e = h
 ended_by-sound t c false h e = (e, h)
 
-pub ended_by-stops : (t : Task) (c : Configuration) → passing t c ≡ Some NoBound → StopsAt t c (if all_ended c.processes then Terminated else Deadlock)
+pub ended_by-stops : (t : Task) (c : Configuration) → passing t c ≡ Some NoBound →
+    StopsAt t c (if all_ended c.processes then Terminated else Deadlock)
 ended_by-stops t c e = ended_by-sound t c (all_ended c.processes) refl e
 
-turn_passing-sound : (t : Task) (c : Configuration) (what : Passing) → passing t c ≡ Some what → Sound t c (turn_passing c what)
+turn_passing-sound : (t : Task) (c : Configuration) (what : Passing) → passing t c ≡ Some what →
+    Sound t c (turn_passing c what)
 turn_passing-sound t c (Took d) e = (e, refl)
 turn_passing-sound t c TooLarge e = e
 turn_passing-sound t c AtHorizon e = e
@@ -48,7 +51,8 @@ pub record Passes (t : Task) (c : Configuration) (took : Passing) : Type 0 where
   pub resting : rests c.processes ≡ true
   pub what : passing_quiet t c ≡ took
 
-passing_by-parts : (o : Option Meeting) (b : Bool) (what took : Passing) → passing_by o b what ≡ Some took → (o ≡ None) × (b ≡ true) × (what ≡ took)
+passing_by-parts : (o : Option Meeting) (b : Bool) (what took : Passing) → passing_by o b what ≡ Some took →
+    (o ≡ None) × (b ≡ true) × (what ≡ took)
 passing_by-parts (Some m) b what took e = cc
 passing_by-parts None false what took e = cc
 passing_by-parts None true what took e = (refl, refl, cc)
@@ -58,14 +62,19 @@ passing-quiet t c took e =
     let parts = passing_by-parts (ready t c) (rests c.processes) (passing_quiet t c) took e in
     record { quiet = parts.0; resting = parts.1; what = parts.2 }
 
-passing_at : (t : Task) (c : Configuration) → ready t c ≡ None → rests c.processes ≡ true → passing t c ≡ Some (passing_quiet t c)
+passing_at : (t : Task) (c : Configuration) → ready t c ≡ None → rests c.processes ≡ true →
+    passing t c ≡ Some (passing_quiet t c)
 passing_at t c quiet r =
-    ap (λ o. passing_by o (rests c.processes) (passing_quiet t c)) quiet ∙ ap (λ b. passing_by None b (passing_quiet t c)) r
+    ap (λ o. passing_by o (rests c.processes) (passing_quiet t c)) quiet
+    ∙ ap (λ b. passing_by None b (passing_quiet t c)) r
 
-wanting-not_idle : (t : Task) (c : Configuration) (p : ℕ) → WantsAt (slice_get c.processes p) → silent_of t c p ≡ Idle → ⊥
-wanting-not_idle t c p w e = silent-not_idle t.seed p c.clock w.process w.wanting (sym (ap (silent_by t c.clock p) w.there) ∙ e)
+wanting-not_idle : (t : Task) (c : Configuration) (p : ℕ) → WantsAt (slice_get c.processes p) →
+    silent_of t c p ≡ Idle → ⊥
+wanting-not_idle t c p w e =
+    silent-not_idle t.seed p c.clock w.process w.wanting (sym (ap (silent_by t c.clock p) w.there) ∙ e)
 
-turn_quiet-sound : (t : Task) (c : Configuration) (o : Option ℕ) → ready t c ≡ None → wanting_from 0 c.processes ≡ o → Sound t c (turn_quiet t c o)
+turn_quiet-sound : (t : Task) (c : Configuration) (o : Option ℕ) → ready t c ≡ None →
+    wanting_from 0 c.processes ≡ o → Sound t c (turn_quiet t c o)
 turn_quiet-sound t c (Some p) quiet e =
     turn_silent-sound t c p (silent_of t c p) refl (wanting-not_idle t c p (least-wants c.processes p e))
 turn_quiet-sound t c None quiet e =
@@ -96,7 +105,8 @@ course_by-piece n t c (Goes step next) h ih =
     let k : Course = course n t next in
     piece_next t n c next k.end step k.items (Some k.stop) h (ih next)
 
-course-piece : (n : ℕ) (t : Task) (c : Configuration) → let k = course n t c in Piece t n c k.items k.end (Some k.stop)
+course-piece : (n : ℕ) (t : Task) (c : Configuration) →
+    let k = course n t c in Piece t n c k.items k.end (Some k.stop)
 course-piece zero t c = no_steps t zero c (Some Limit) (inl (refl, refl))
 course-piece (suc n) t c = course_by-piece n t c (turn t c) (turn-sound t c) (course-piece n t)
 
@@ -110,5 +120,6 @@ run_is_prefix t items end r =
     let left = t.limit - length items in
     let k : Course = course left t end in
     let all : length items + left ≡ t.limit = omega (arith, r.within) in
-    let whole = piece_after t t.limit left (opening t) end k.end items k.items (Some k.stop) all r.leads (course-piece left t end) in
-    (k.items, k.end, k.stop, record { run = record { leads = whole.leads; within = whole.within }; stops = whole.ends })
+    let more = course-piece left t end in
+    let w = piece_after t t.limit left (opening t) end k.end items k.items (Some k.stop) all r.leads more in
+    (k.items, k.end, k.stop, record { run = record { leads = w.leads; within = w.within }; stops = w.ends })

@@ -16,6 +16,8 @@ use Rattle.hc_term.specs.Stop.{StopsAt, IsBehaviour}
 use Rattle.hc_term.specs.Canonical.{canonical, course, wanting_from}
 use Rattle.hc_term.specs.Event.{Event, event, EndsWell}
 
+-- ---- any configuration
+
 -- the canonical run is a run with one of its stops
 abbrev pub CanonicalIsBehaviour : Type 0
 CanonicalIsBehaviour = (t : Task) → IsBehaviour t (canonical t).items (canonical t).end (canonical t).stop
@@ -24,12 +26,6 @@ CanonicalIsBehaviour = (t : Task) → IsBehaviour t (canonical t).items (canonic
 abbrev pub GoesOnOrStops : Type 0
 GoesOnOrStops =
     (t : Task) (c : Configuration) → ((step : Step) × (next : Configuration) × StepTo t c step next) ⊎ ((stop : Stop) × StopsAt t c stop)
-
--- each run can be led on to a behaviour
-abbrev pub RunIsPrefix : Type 0
-RunIsPrefix =
-    (t : Task) (items : List Item) (end : Configuration) → IsRun t items end →
-    (more : List Item) × (last : Configuration) × (stop : Stop) × IsBehaviour t (items ++ more) last stop
 
 -- silent steps of two processes may be taken in either order
 abbrev pub SilentStepsCommute : Type 0
@@ -45,27 +41,6 @@ SilentAndCommCommute =
     StepTo t c (Silent p logged) one → StepTo t c (Comm channel value) two →
     (both : Configuration) × StepTo t one (Comm channel value) both × StepTo t two (Silent p logged) both
 
--- in what a run reaches, the clock is at the horizon at most
-abbrev pub ClockKeepsHorizon : Type 0
-ClockKeepsHorizon = (t : Task) (items : List Item) (c : Configuration) → Leads t (opening t) items c → c.clock ≤ℚ t.horizon
-
--- and a run that stops at the horizon has reached it
-abbrev pub HorizonIsReached : Type 0
-HorizonIsReached =
-    (t : Task) (items : List Item) (c : Configuration) → Leads t (opening t) items c → StopsAt t c Horizon → c.clock ≡ t.horizon
-
--- in what a run reaches, a communication joins two processes
-abbrev pub MeetingsJoinTwo : Type 0
-MeetingsJoinTwo =
-    (t : Task) (items : List Item) (c : Configuration) (m : Meeting) → Leads t (opening t) items c →
-    m.channel < length t.system.channels → Meets m c → m.sender ≢ m.receiver
-
--- and a channel has one sender at most, with one value, and one receiver
-abbrev pub MeetingsAreUnique : Type 0
-MeetingsAreUnique =
-    (t : Task) (items : List Item) (c : Configuration) (m n : Meeting) → Leads t (opening t) items c →
-    m.channel < length t.system.channels → m.channel ≡ n.channel → Meets m c → Meets n c → m ≡ n
-
 -- a delay makes no channel ready
 abbrev pub DelaysKeepQuiet : Type 0
 DelaysKeepQuiet = (t : Task) (c : Configuration) (d : Rational) → passing t c ≡ Some (Took d) → ready t (delayed d c) ≡ None
@@ -76,14 +51,46 @@ EventIsRun =
     (room : ℕ) (t : Task) (p : ℕ) (c : Configuration) (q : ProcessState) → slice_get c.processes p ≡ Some q →
     let e = event room t p c in Leads t c e.items e.end × (length e.items ≤ room) × EndsWell t room (length e.items) e.end e.stop
 
--- an event that sets no stop leaves no channel ready, and none is ready at the opening
+-- ---- runs from the opening
+
+-- each run can be led on to a behaviour
+abbrev pub RunIsPrefix : Type 0
+RunIsPrefix =
+    (t : Task) (items : List Item) (end : Configuration) → IsRun t items end →
+    (more : List Item) × (last : Configuration) × (stop : Stop) × IsBehaviour t (items ++ more) last stop
+
+-- in what a run reaches, the clock is at the horizon at most
+abbrev pub ClockKeepsHorizon : Type 0
+ClockKeepsHorizon = (t : Task) (items : List Item) (c : Configuration) → Leads t (opening t) items c → c.clock ≤ℚ t.horizon
+
+-- where a run stops at the horizon, the clock has reached it
+abbrev pub HorizonIsReached : Type 0
+HorizonIsReached =
+    (t : Task) (items : List Item) (c : Configuration) → Leads t (opening t) items c → StopsAt t c Horizon → c.clock ≡ t.horizon
+
+-- in what a run reaches, a communication joins two processes
+abbrev pub MeetingsJoinTwo : Type 0
+MeetingsJoinTwo =
+    (t : Task) (items : List Item) (c : Configuration) (m : Meeting) → Leads t (opening t) items c →
+    m.channel < length t.system.channels → Meets m c → m.sender ≢ m.receiver
+
+-- and each channel has one meeting at most
+abbrev pub MeetingsAreUnique : Type 0
+MeetingsAreUnique =
+    (t : Task) (items : List Item) (c : Configuration) (m n : Meeting) → Leads t (opening t) items c →
+    m.channel < length t.system.channels → m.channel ≡ n.channel → Meets m c → Meets n c → m ≡ n
+
+-- ---- events and the canonical run
+
+-- no channel is ready at the opening
+abbrev pub OpeningIsQuiet : Type 0
+OpeningIsQuiet = (t : Task) → ready t (opening t) ≡ None
+
+-- an event that sets no stop leaves no channel ready
 abbrev pub EventsEndQuiet : Type 0
 EventsEndQuiet =
     (room : ℕ) (t : Task) (p : ℕ) (c : Configuration) (q : ProcessState) → slice_get c.processes p ≡ Some q →
     let e = event room t p c in e.stop ≡ None → ready t e.end ≡ None
-
-abbrev pub OpeningIsQuiet : Type 0
-OpeningIsQuiet = (t : Task) → ready t (opening t) ≡ None
 
 -- the canonical steps from c are those of the event, and what follows them where it sets no stop
 pub record BeginsWith (room : ℕ) (t : Task) (c : Configuration) (e : Event) : Type 0 where
