@@ -1,6 +1,6 @@
 -- The processes and channels that steps and stops name belong to the system, for no step changes the number of processes.
-use Rattle.std.proofs.Common.{◌≡◌, ◌≢◌, ℕ, zero, suc, ◌+◌, ◌<◌, Bool, true, false, if◌then◌else◌, List, [], ◌∷◌, length, get_or, Option, Some, None, inl, inr, refl, sym, ap, ◌∙◌, arith}
-use Rattle.std.specs.Prelude.{slice_get, ◌⊎◌, ⊤}
+use Rattle.std.proofs.Common.{◌≡◌, ◌≢◌, ℕ, zero, suc, ◌+◌, ◌<◌, Bool, true, false, if◌then◌else◌, List, [], ◌∷◌, length, get_or, Option, Some, None, inl, inr, refl, ap, ◌∙◌, arith}
+use Rattle.std.specs.Prelude.{slice_get}
 use Rattle.std.proofs.lemmas.List.{length-map, length-set}
 use Rattle.std.proofs.lemmas.Option.{slice_get_within}
 use Rattle.hc_rational.specs.Words.{Rational}
@@ -19,8 +19,8 @@ use Rattle.hc_term.specs.Silent.{Outcome, Idle, Unfit, Did}
 use Rattle.hc_term.specs.Posts.{Passing, NoBound, AtHorizon, TooLarge, Took, sender, receiver, meeting_by, meeting_on, meeting_from, first_of}
 use Rattle.hc_term.specs.Step.{Leads, StepTo, opening, opening_of, posts, ready, silent_by, silent_of, passing_quiet, changed, replaced, met, delayed, all_ended}
 use Rattle.hc_term.specs.Communication.{sent, received, moved}
-use Rattle.hc_term.specs.Stop.{IsBehaviour, Stops, StopsAt}
-use Rattle.hc_term.specs.Canonical.{canonical, Course, course, course_by, Turn, Goes, Halts, turn, turn_by, turn_quiet, turn_passing, turn_silent, wanting_from, ended_by}
+use Rattle.hc_term.specs.Stop.{Stops, StopsAt}
+use Rattle.hc_term.specs.Canonical.{Course, course, course_by, Turn, Goes, Halts, turn, turn_by, turn_quiet, turn_passing, turn_silent, wanting_from}
 use Rattle.hc_trace.specs.InRange.{StepInRange, AreInRange, StopInRange}
 use Rattle.hc_trace.specs.Laws.{RunsAreInRange, BehavioursAreInRange, CanonicalIsInRange}
 

@@ -7,5 +7,4 @@ pub fn ranges()
     ensures runs { RunsAreInRange }
     ensures behaviours { BehavioursAreInRange }
     ensures canonical { CanonicalIsInRange }
-{
-}
+{}
