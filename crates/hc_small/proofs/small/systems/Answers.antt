@@ -1,0 +1,5 @@
+use Rattle.hc_small.proofs.SmallTexts.{one_small}
+use Rattle.hc_small.proofs.small.systems.Goals as goal
+
+pub returns : goal.returns
+returns c = one_small
