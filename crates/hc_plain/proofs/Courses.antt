@@ -18,12 +18,12 @@ goes_on n limit t is c new step below e =
     let more : limit - n ≡ suc (limit - (n + 1)) = omega arith in
     let later = course (limit - (n + 1)) t in
     ap (λ (m : ℕ). behind is (course m t c)) more
-      ∙ (ap (λ o. behind is (course_by c later o)) e
-      ∙ ap (λ (js : List Item). record (later new) { items = js }) (sym (append_assoc is (record { at = c.clock; step = step } ∷ []) (later new).items)))
+    ∙ (ap (λ o. behind is (course_by c later o)) e
+    ∙ ap (λ (js : List Item). record (later new) { items = js }) (sym (append_assoc is (record { at = c.clock; step = step } ∷ []) (later new).items)))
 
 pub halts : (n limit : ℕ) (t : Task) (is : List Item) (c : Configuration) (stop : Stop) → n < limit → turn t c ≡ Halts stop →
     behind is (course (limit - n) t c) ≡ record { items = is; end = c; stop = stop }
 halts n limit t is c stop below e =
     let more : limit - n ≡ suc (limit - (n + 1)) = omega arith in
     ap (λ (m : ℕ). behind is (course m t c)) more
-      ∙ (ap (λ o. behind is (course_by c (course (limit - (n + 1)) t) o)) e ∙ ap (λ (js : List Item). record { items = js; end = c; stop = stop }) (append-nil is))
+    ∙ (ap (λ o. behind is (course_by c (course (limit - (n + 1)) t) o)) e ∙ ap (λ (js : List Item). record { items = js; end = c; stop = stop }) (append-nil is))

@@ -20,11 +20,11 @@ module _ (clock b horizon : Rational) where
       rank (clock +ℚ b) horizon ≡ o
   by_cases Less h =
       (rank_is (clock +ℚ b) horizon).less.1
-        (subst (λ (q : Rational). q <ℚ horizon) moved (subst (λ (q : Rational). (b +ℚ clock) <ℚ q) there (+ℚ-<ℚ b (horizon -ℚ clock) clock h)))
+      (subst (λ (q : Rational). q <ℚ horizon) moved (subst (λ (q : Rational). (b +ℚ clock) <ℚ q) there (+ℚ-<ℚ b (horizon -ℚ clock) clock h)))
   by_cases Equal h = (rank_is (clock +ℚ b) horizon).equal.1 (sym moved ∙ (ap (λ q. q +ℚ clock) h ∙ there))
   by_cases Greater h =
       (rank_is (clock +ℚ b) horizon).greater.1
-        (subst (λ (q : Rational). horizon <ℚ q) moved (subst (λ (q : Rational). q <ℚ (b +ℚ clock)) there (+ℚ-<ℚ (horizon -ℚ clock) b clock h)))
+      (subst (λ (q : Rational). horizon <ℚ q) moved (subst (λ (q : Rational). q <ℚ (b +ℚ clock)) there (+ℚ-<ℚ (horizon -ℚ clock) b clock h)))
 
   -- the moment clock + b lies to the horizon as b lies to what is left to it
   pub rank-moved : rank (clock +ℚ b) horizon ≡ rank b (horizon -ℚ clock)
@@ -46,12 +46,14 @@ pub to_bound : (clock b horizon end : Rational) → IsFrac b → IsFrac (clock +
     let by = lesser b (horizon -ℚ clock) in
     IsTrue (fits by && fits (clock +ℚ by)) × (◌≡◌ {A = Rational × Rational} (b, end) (by, clock +ℚ by))
 to_bound clock b horizon end f g e o =
-    let same : lesser b (horizon -ℚ clock) ≡ b = chosen o in
-    (subst (λ (q : Rational). IsTrue (fits q && fits (clock +ℚ q))) (sym same) (and_both (fits b) (fits (clock +ℚ b)) f g),
-     ap₂ (λ (q r : Rational). pair q r) (sym same) (e ∙ ap (λ q. clock +ℚ q) (sym same)))
+    let same : lesser b (horizon -ℚ clock) ≡ b = chosen o in (
+      subst (λ (q : Rational). IsTrue (fits q && fits (clock +ℚ q))) (sym same) (and_both (fits b) (fits (clock +ℚ b)) f g),
+      ap₂ (λ (q r : Rational). pair q r) (sym same) (e ∙ ap (λ q. clock +ℚ q) (sym same)),
+    )
   where
     ranked : rank b (horizon -ℚ clock) ≡ rank end horizon
     ranked = sym (ap (λ q. rank q horizon) e ∙ rank-moved clock b horizon)
+
     chosen : (rank end horizon ≡ Less) ⊎ (rank end horizon ≡ Equal) → lesser b (horizon -ℚ clock) ≡ b
     chosen (inl h) = ap (λ o. by_rank o b (horizon -ℚ clock)) (ranked ∙ h)
     chosen (inr h) = ap (λ o. by_rank o b (horizon -ℚ clock)) (ranked ∙ h)

@@ -94,9 +94,10 @@ receiver_next : (clock : Rational) (c from : ℕ) (q : ProcessState) (qs : List 
     (from ≤ r) × (is_ready_to_receive (slice_get (q ∷ qs) (r - from)) ≡ true)
 receiver_next clock c from q qs r true h ih e =
     let same : from ≡ r = cc in
-    let none : r - from ≡ 0 = omega (arith, same) in
-    (omega (arith, same),
-     subst (λ (n : ℕ). is_ready_to_receive (slice_get (q ∷ qs) n) ≡ true) (sym none) (wishes-some clock q.store (bound q) q.mark q.todo c h))
+    let none : r - from ≡ 0 = omega (arith, same) in (
+      omega (arith, same),
+      subst (λ (n : ℕ). is_ready_to_receive (slice_get (q ∷ qs) n) ≡ true) (sym none) (wishes-some clock q.store (bound q) q.mark q.todo c h),
+    )
 receiver_next clock c from q qs r false h ih e =
     let k = ih e in
     let more : r - from ≡ suc (r - (from + 1)) = omega (arith, k.0) in
@@ -135,10 +136,10 @@ on_sound clock c ps (Some s) (Some r) m es er e =
     let receives = receiver-sound clock c 0 ps r er in
     let at : r - 0 ≡ r = omega arith in
     subst (λ (k : Meeting). CanMeet k ps) same
-      (record {
-        sender = omega (arith, sends, length-map ps (post clock));
-        receiver = subst (λ (n : ℕ). is_ready_to_receive (slice_get ps n) ≡ true) at receives.1;
-      })
+    (record {
+      sender = omega (arith, sends, length-map ps (post clock));
+      receiver = subst (λ (n : ℕ). is_ready_to_receive (slice_get ps n) ≡ true) at receives.1;
+    })
 
 from_next : (clock : Rational) (c : ℕ) (ps : List ProcessState) (m : Meeting) (o rest : Option Meeting) → meeting_on c (posts_of clock ps) ≡ o →
     (rest ≡ Some m → CanMeet m ps) → first_of o rest ≡ Some m → CanMeet m ps

@@ -12,4 +12,4 @@ pub meeting_from-next : (c n : ℕ) (ps : List Post) → c < n → is_some (meet
 meeting_from-next c n ps below none =
     let more : n - c ≡ suc (n - (c + 1)) = omega arith in
     ap (λ (m : ℕ). meeting_from c m ps) more
-      ∙ ap (λ o. first_of o (meeting_from (c + 1) (n - (c + 1)) ps)) (is_none (meeting_on c ps) none)
+    ∙ ap (λ o. first_of o (meeting_from (c + 1) (n - (c + 1)) ps)) (is_none (meeting_on c ps) none)

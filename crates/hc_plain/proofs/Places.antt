@@ -32,7 +32,7 @@ module _ {X : Type 0} (test : X → Bool) where
   all-set (y ∷ ys) zero x h k = and_both (test x) (list_all test ys) k (and_right (test y) (list_all test ys) h)
   all-set (y ∷ ys) (suc p) x h k =
       and_both (test y) (list_all test (set ys p x)) (and_left (test y) (list_all test ys) h)
-        (all-set ys p x (and_right (test y) (list_all test ys) h) k)
+      (all-set ys p x (and_right (test y) (list_all test ys) h) k)
 
   pub all-get_or : (xs : List X) (p : ℕ) (d : X) → p < length xs → list_all test xs ≡ true → test (get_or xs p d) ≡ true
   all-get_or [] p d b h = absurd (omega arith)

@@ -13,14 +13,24 @@ fn copy_of_one(stmt: &Stmt) -> Stmt
 {
     match stmt {
         Stmt::Skip => Stmt::Skip,
-        Stmt::Assign { variable, value: Expr::Number(value) } => Stmt::Assign {
+        Stmt::Assign {
+            variable,
+            value: Expr::Number(value),
+        } => Stmt::Assign {
             variable: *variable,
             value: Expr::Number(*value),
         },
-        Stmt::Wait { time: Expr::Number(time) } => Stmt::Wait {
+        Stmt::Wait {
+            time: Expr::Number(time),
+        } => Stmt::Wait {
             time: Expr::Number(*time),
         },
-        Stmt::Io(Io::Send { channel, value: Expr::Number(value) }) => Stmt::Io(Io::Send {
+        Stmt::Io(
+            Io::Send {
+                channel,
+                value: Expr::Number(value),
+            },
+        ) => Stmt::Io(Io::Send {
             channel: *channel,
             value: Expr::Number(*value),
         }),

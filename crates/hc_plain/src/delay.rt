@@ -47,10 +47,8 @@ fn delay_by(clock: Frac, by: Frac) -> Option<(Frac, Frac)>
 /// A delay up to the bound, where what is left to the horizon doesn't fit.
 fn delay_to_bound(clock: Frac, horizon: Frac, bound: Frac) -> Option<(Frac, Frac)>
     requires { ¬ IsFrac (horizon -ℚ clock) }
-    ensures {
-        let by = lesser bound (horizon -ℚ clock) in
-        SomeIff result (IsTrue (fits by && fits (clock +ℚ by))) (by, clock +ℚ by)
-    }
+    ensures { let by = lesser bound (horizon -ℚ clock) in
+        SomeIff result (IsTrue (fits by && fits (clock +ℚ by))) (by, clock +ℚ by) }
 {
     let Some(end) = clock.add(known(bound)) else {
         return None;
@@ -64,10 +62,8 @@ fn delay_to_bound(clock: Frac, horizon: Frac, bound: Frac) -> Option<(Frac, Frac
 
 /// How long the delay lasts, with the moment at which it ends, where both fit.
 pub(crate) fn length_of(clock: Frac, horizon: Frac, least: Option<Frac>) -> Option<(Frac, Frac)>
-    ensures {
-        let by = length_of_delay (horizon -ℚ clock) least in
-        SomeIff result (IsTrue (fits by && fits (clock +ℚ by))) (by, clock +ℚ by)
-    }
+    ensures { let by = length_of_delay (horizon -ℚ clock) least in
+        SomeIff result (IsTrue (fits by && fits (clock +ℚ by))) (by, clock +ℚ by) }
 {
     match (least, horizon.sub(clock)) {
         (None, Some(rest)) => delay_by(clock, rest),

@@ -45,7 +45,12 @@ fn variable_for(stmt: &Stmt, channel: u32) -> u32
     ensures { received_here channel (out-Stmt stmt.now) ≡ (result, []) }
 {
     match stmt {
-        Stmt::Io(Io::Receive { channel: own, variable }) if *own == channel => *variable,
+        Stmt::Io(
+            Io::Receive {
+                channel: own,
+                variable,
+            },
+        ) if *own == channel => *variable,
         _ => 0,
     }
 }

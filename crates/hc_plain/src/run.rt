@@ -57,7 +57,11 @@ fn opening_states(alloc: Global, task: &Task) -> Result<Vec<ProcessState>, Alloc
 }
 
 /// The canonical run from the start, where these are the processes before their first steps.
-fn run_on(alloc: Global, task: &Task, states: &mut [ProcessState]) -> Result<CanonicalRun, AllocError>
+fn run_on(
+    alloc: Global,
+    task: &Task,
+    states: &mut [ProcessState],
+) -> Result<CanonicalRun, AllocError>
     requires plain { IsPlain states.old }
     requires opened { states.old ≡ (opening task.now).processes }
     ensures { IfOk result (IsCanonical task.now) }

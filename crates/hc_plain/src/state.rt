@@ -64,7 +64,15 @@ pub(crate) fn gift_of(state: &ProcessState, clock: Frac, channel: u32) -> Option
         return None;
     };
     match state.todo.as_slice() {
-        [Stmt::Io(Io::Send { channel: own, value: Expr::Number(value) }), ..] if *own == channel => Some(*value),
+        [
+            Stmt::Io(
+                Io::Send {
+                    channel: own,
+                    value: Expr::Number(value),
+                },
+            ),
+            ..
+        ] if *own == channel => Some(*value),
         _ => None,
     }
 }
@@ -78,7 +86,15 @@ pub(crate) fn is_wishing(state: &ProcessState, clock: Frac, channel: u32) -> boo
         return false;
     };
     match state.todo.as_slice() {
-        [Stmt::Io(Io::Receive { channel: own, variable: _ }), ..] => *own == channel,
+        [
+            Stmt::Io(
+                Io::Receive {
+                    channel: own,
+                    variable: _,
+                },
+            ),
+            ..
+        ] => *own == channel,
         _ => false,
     }
 }
@@ -101,7 +117,10 @@ pub(crate) fn step_on(state: &mut ProcessState, clock: Frac) -> Result<(), Unfit
     ensures plain { IsTrue (are_plain state.new.todo) }
 {
     match &state.todo.as_slice()[0] {
-        Stmt::Assign { variable, value: Expr::Number(value) } => {
+        Stmt::Assign {
+            variable,
+            value: Expr::Number(value),
+        } => {
             let at = *variable as usize;
             let value = *value;
             if at < state.store.len() {
@@ -109,7 +128,9 @@ pub(crate) fn step_on(state: &mut ProcessState, clock: Frac) -> Result<(), Unfit
             }
             state.todo.remove(0);
         }
-        Stmt::Wait { time: Expr::Number(time) } => {
+        Stmt::Wait {
+            time: Expr::Number(time),
+        } => {
             let left = *time;
             if !is_due_fitting(clock, greater_of(Frac::zero(), left)) {
                 return Err(Unfit);

@@ -76,7 +76,12 @@ fn meet(states: &mut [ProcessState], meeting: &Meeting)
     ensures met { states.new ≡ all_met meeting.now states.old }
     ensures plain { IsPlain states.new }
 {
-    receive_at(states, meeting.receiver as usize, meeting.channel, meeting.value);
+    receive_at(
+        states,
+        meeting.receiver as usize,
+        meeting.channel,
+        meeting.value,
+    );
     send_at(states, meeting.sender as usize, meeting.channel);
 }
 
@@ -96,7 +101,11 @@ fn pass(task: &Task, clock: &mut Frac, states: &mut [ProcessState]) -> Next
 {
     let now = *clock;
     if !is_some_timed(states, now) {
-        let stop = if are_all_ended(states) { Stop::Terminated } else { Stop::Deadlock };
+        let stop = if are_all_ended(states) {
+            Stop::Terminated
+        } else {
+            Stop::Deadlock
+        };
         return Next::Stopped(stop);
     }
     if now.compare(task.horizon) != Ordering::Less {

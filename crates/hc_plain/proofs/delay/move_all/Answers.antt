@@ -18,30 +18,30 @@ module _ (c : goal.After-index-states-at) where
   here : get_or c.loop-at.states c.loop-at.at c.index-states-at.result ≡ get_or c.args.states.now c.loop-at.at c.index-states-at.result
   here =
       ap (λ ss. get_or ss c.loop-at.at c.index-states-at.result) c.loop-at.invariant
-        ∙ get_or-front (moved c.args.by) c.loop-at.at c.args.states.now c.index-states-at.result
+      ∙ get_or-front (moved c.args.by) c.loop-at.at c.args.states.now c.index-states-at.result
 
 pub move_by-requires-clause-plain : goal.move_by-requires-clause-plain
 move_by-requires-clause-plain c =
     subst (λ (s : ProcessState). are_plain s.todo ≡ true) (sym (here c))
-      (all-get_or (λ s. are_plain s.todo) c.args.states.now c.loop-at.at c.index-states-at.result c.loop-at-test.true c.requires.plain)
+    (all-get_or (λ s. are_plain s.todo) c.args.states.now c.loop-at.at c.index-states-at.result c.loop-at-test.true c.requires.plain)
 
 pub move_by-requires-clause-rests : goal.move_by-requires-clause-rests
 move_by-requires-clause-rests c =
     ap wants (here c)
-      ∙ not-true _ (all-get_or (λ s. not (wants s)) c.args.states.now c.loop-at.at c.index-states-at.result c.loop-at-test.true c.requires.rests)
+    ∙ not-true _ (all-get_or (λ s. not (wants s)) c.args.states.now c.loop-at.at c.index-states-at.result c.loop-at-test.true c.requires.rests)
 
 pub move_by-requires-clause-fits : goal.move_by-requires-clause-fits
 move_by-requires-clause-fits c =
     subst (λ (s : ProcessState). post_fits c.args.by (post c.args.clock s) ≡ true) (sym (here c))
-      (all-get_or (λ s. post_fits c.args.by (post c.args.clock s)) c.args.states.now c.loop-at.at c.index-states-at.result c.loop-at-test.true
-        (sym (list_all-map (post_fits c.args.by) (post c.args.clock) c.args.states.now) ∙ c.requires.fits))
+    (all-get_or (λ s. post_fits c.args.by (post c.args.clock s)) c.args.states.now c.loop-at.at c.index-states-at.result c.loop-at-test.true
+    (sym (list_all-map (post_fits c.args.by) (post c.args.clock) c.args.states.now) ∙ c.requires.fits))
 
 pub loop-at-preserved : goal.loop-at-preserved
 loop-at-preserved c =
     let f = moved c.args.by in
     let xs = c.args.states.now in
     ap₂ (λ ss q. set ss c.loop-at.at q) c.loop-at.invariant (c.move_by.ensures.moved ∙ ap f (here c.before))
-      ∙ (set-front f c.loop-at.at xs c.index-states-at.result c.loop-at-test.true ∙ ap (λ n. front f n xs) (sym (add-one c.loop-at.at)))
+    ∙ (set-front f c.loop-at.at xs c.index-states-at.result c.loop-at-test.true ∙ ap (λ n. front f n xs) (sym (add-one c.loop-at.at)))
 
 pub returns-clause-moved : goal.returns-clause-moved
 returns-clause-moved c = c.loop-at.invariant ∙ front-all (moved c.args.by) c.loop-at.at c.args.states.now c.loop-at-test.false
@@ -49,4 +49,4 @@ returns-clause-moved c = c.loop-at.invariant ∙ front-all (moved c.args.by) c.l
 pub returns-clause-plain : goal.returns-clause-plain
 returns-clause-plain c =
     ap all_plain (c.loop-at.invariant ∙ front-all (moved c.args.by) c.loop-at.at c.args.states.now c.loop-at-test.false)
-      ∙ (all_plain-moved c.args.by c.args.states.now ∙ c.requires.plain)
+    ∙ (all_plain-moved c.args.by c.args.states.now ∙ c.requires.plain)

@@ -6,5 +6,5 @@ use Rattle.hc_plain.proofs.meetings.least_meeting.Goals as goal
 pub loop-channel-preserved : goal.loop-channel-preserved
 loop-channel-preserved c =
     c.loop-channel.invariant
-      ∙ meeting_from-next c.loop-channel.channel c.args.channels (posts_of c.args.clock c.args.states.now) c.loop-channel-test.true
-          (ap is_some (sym c.meeting_at-meeting.ensures) ∙ (sym c.is_some.ensures ∙ c.if-is_some.false))
+    ∙ meeting_from-next c.loop-channel.channel c.args.channels (posts_of c.args.clock c.args.states.now) c.loop-channel-test.true
+    (ap is_some (sym c.meeting_at-meeting.ensures) ∙ (sym c.is_some.ensures ∙ c.if-is_some.false))

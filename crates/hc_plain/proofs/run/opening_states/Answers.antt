@@ -9,5 +9,5 @@ use Rattle.hc_plain.proofs.run.opening_states.Goals as goal
 pub returns-clause-plain : goal.returns-clause-plain
 returns-clause-plain c =
     let all = c.loop-process.invariant.opened
-      ∙ ap (map opening_of) (take_all c.loop-process.process-index c.as_slice-process-items.result.now c.loop-process-test.false ∙ c.as_slice-process-items.ensures) in
+    ∙ ap (map opening_of) (take_all c.loop-process.process-index c.as_slice-process-items.result.now c.loop-process-test.false ∙ c.as_slice-process-items.ensures) in
     rw all (opened-plain c.args.task.now.system c.requires)

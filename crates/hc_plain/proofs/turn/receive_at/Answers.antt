@@ -8,7 +8,7 @@ use Rattle.hc_plain.proofs.turn.receive_at.Goals as goal
 pub receive-requires-clause-plain : goal.receive-requires-clause-plain
 receive-requires-clause-plain c =
     all-get_or (λ s. are_plain s.todo) c.args.states.now c.args.at c.index-states-at.result
-      (ready-within c.args.states.now c.args.at c.requires.ready) c.requires.plain
+    (ready-within c.args.states.now c.args.at c.requires.ready) c.requires.plain
 
 pub receive-requires-clause-some : goal.receive-requires-clause-some
 receive-requires-clause-some c =
@@ -17,8 +17,8 @@ receive-requires-clause-some c =
 pub returns-clause-received : goal.returns-clause-received
 returns-clause-received c =
     ap (set c.args.states.now c.args.at) c.receive.ensures.received
-      ∙ changed-set (received c.args.channel c.args.value) c.args.at c.args.states.now c.index-states-at.result
-          (ready-within c.args.states.now c.args.at c.requires.ready)
+    ∙ changed-set (received c.args.channel c.args.value) c.args.at c.args.states.now c.index-states-at.result
+    (ready-within c.args.states.now c.args.at c.requires.ready)
 
 pub returns-clause-plain : goal.returns-clause-plain
 returns-clause-plain c =

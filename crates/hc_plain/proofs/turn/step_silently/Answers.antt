@@ -12,7 +12,7 @@ bounds-states-process c = wanted-within c.args.states.now c.args.process c.requi
 pub take_step-requires-clause-plain : goal.take_step-requires-clause-plain
 take_step-requires-clause-plain c =
     all-get_or (λ s. are_plain s.todo) c.args.states.now c.args.process c.index-states-process.result
-      (wanted-within c.args.states.now c.args.process c.requires.wanted) c.requires.plain.plain
+    (wanted-within c.args.states.now c.args.process c.requires.wanted) c.requires.plain.plain
 
 pub take_step-requires-clause-wants : goal.take_step-requires-clause-wants
 take_step-requires-clause-wants c = (wanted-at c.args.states.now c.args.process c.index-states-process.result c.requires.wanted).wanted
@@ -20,7 +20,7 @@ take_step-requires-clause-wants c = (wanted-at c.args.states.now c.args.process 
 pub returns-in-Ok-clause-follows : goal.returns-in-Ok-clause-follows
 returns-in-Ok-clause-follows c =
     turn-silent c.args.task.now c.args.clock c.args.states.now c.args.process c.index-states-process.result _ c.requires.quiet c.requires.wanted
-      (c.in-Ok.ensures.taken c.args.task.now.seed c.args.process)
+    (c.in-Ok.ensures.taken c.args.task.now.seed c.args.process)
 
 pub returns-in-Ok-clause-plain : goal.returns-in-Ok-clause-plain
 returns-in-Ok-clause-plain c = record {
@@ -29,6 +29,8 @@ returns-in-Ok-clause-plain c = record {
 }
 
 pub returns-in-Err-clause-follows : goal.returns-in-Err-clause-follows
-returns-in-Err-clause-follows c =
-    (turn-silent c.args.task.now c.args.clock c.args.states.now c.args.process c.index-states-process.result _ c.requires.quiet c.requires.wanted
-      (c.in-Err.ensures.unfit c.args.task.now.seed c.args.process), refl)
+returns-in-Err-clause-follows c = (
+  turn-silent c.args.task.now c.args.clock c.args.states.now c.args.process c.index-states-process.result _ c.requires.quiet c.requires.wanted
+      (c.in-Err.ensures.unfit c.args.task.now.seed c.args.process),
+  refl,
+)

@@ -1,0 +1,10 @@
+-- What the words of a call ask for.
+use Rattle.std.specs.Prelude.{ℕ, List, [], ◌∷◌, Option, Some, None, codes, if◌then◌else◌}
+use Rattle.std.specs.Str.{bytes_eq}
+use Rattle.hc_cmd.specs.declared.words.Request.{Request}
+use Rattle.hc_cmd.specs.declared.words.Request.TheVariants.{Simulate}
+
+-- exactly two words ask for something: the program's name, and the action `simulate`
+abbrev pub request_of : List (List ℕ) → Option Request
+request_of (name ∷ action ∷ []) = if bytes_eq action (codes "simulate") then Some Simulate else None
+request_of words = None

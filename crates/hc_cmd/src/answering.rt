@@ -1,0 +1,57 @@
+//! The top call.
+
+ghost use Rattle.std.specs.Prelude.{◌≡◌, ◌⊎◌, map};
+ghost use Rattle.std.specs.String.{string_bytes};
+ghost use Rattle.hc_world.specs.Counts.{Rose};
+ghost use Rattle.hc_reply.specs.Reply.{Reply};
+ghost use Rattle.hc_reply.specs.Sinks.{Stands};
+ghost use Rattle.hc_cmd.specs.Replies.{Replies};
+ghost use Rattle.hc_cmd.specs.Complete.{IsComplete};
+
+use crate::simulation::Simulation;
+use hc_reply::tell;
+use hc_world::{Sink, Source};
+use std::alloc::Global;
+
+/// The status where a write or a flush failed.
+const WRITE_FAILED: u8 = 4;
+
+fn reply_to<S: Source, O: Sink, E: Sink>(
+    alloc: Global,
+    words: &Vec<String>,
+    source: &mut S,
+    out: &mut O,
+    err: &mut E,
+) -> u8
+    ensures { (reply : Reply) × Replies S.left S.faults (map string_bytes words.now.items) source.old source.new reply
+        × Stands O.told O.faults E.told E.faults out.old out.new err.old err.new reply result }
+{
+    match Simulation::of_words(alloc, words, source) {
+        Ok(simulation) => match simulation.write(out) {
+            Ok(()) => simulation.status(),
+            Err(_) => WRITE_FAILED,
+        },
+        Err(refusal) => match tell(err, refusal.line()) {
+            Ok(()) => refusal.status(),
+            Err(_) => WRITE_FAILED,
+        },
+    }
+}
+
+/// Does what the words ask for with the bytes of `source`, writes on `out` and `err`, and answers the
+/// status of the program. All memory is taken before the first write.
+pub fn answer<S: Source, O: Sink, E: Sink>(
+    alloc: Global,
+    words: &Vec<String>,
+    source: &mut S,
+    out: &mut O,
+    err: &mut E,
+) -> u8
+    ensures reply { (reply : Reply) × Replies S.left S.faults (map string_bytes words.now.items) source.old source.new reply
+        × Stands O.told O.faults E.told E.faults out.old out.new err.old err.new reply result }
+    ensures write_fault { result ≡ 4 → Rose (O.faults out.old) (O.faults out.new) ⊎ Rose (E.faults err.old) (E.faults err.new) }
+    ensures complete { IsComplete S.left S.faults O.told O.faults E.told E.faults (map string_bytes words.now.items)
+        source.old source.new out.old out.new err.old err.new result }
+{
+    reply_to(alloc, words, source, out, err)
+}

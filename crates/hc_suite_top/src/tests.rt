@@ -1,0 +1,255 @@
+use hc_cmd::answer;
+use hc_frac::Frac;
+use hc_plain::canonical_run;
+use hc_small::read_small;
+use hc_term::{Stop, Task};
+use hc_world::{MemSink, MemSource};
+use std::alloc::Global;
+use std::process::Abort;
+use std::test::Fail;
+
+/// The calls of the source, of output and of error that fail, by their numbers.
+#[derive(Drop)]
+struct Faults<'a> {
+    source: &'a [u64],
+    out: &'a [u64],
+    err: &'a [u64],
+}
+
+/// What is to stand after a call.
+#[derive(Drop)]
+struct Wanted<'a> {
+    status: u8,
+    out: &'a str,
+    err: &'a str,
+}
+
+const NONE: Faults<'static> = Faults {
+    source: &[],
+    out: &[],
+    err: &[],
+};
+
+/// Simulates the text, and compares the status and what stands on output and error.
+fn expect_reply(
+    rt: &impl Abort,
+    alloc: Global,
+    text: &[u8],
+    faults: &Faults,
+    wanted: &Wanted,
+) -> Result<(), Fail> {
+    let mut words = Vec::new(alloc);
+    words.push(String::from_str(alloc, "hcsp")?)?;
+    words.push(String::from_str(alloc, "simulate")?)?;
+    let bytes = Vec::from_slice(alloc, text)?;
+    let mut source = MemSource::open(bytes, 4096, Vec::from_slice(alloc, faults.source)?);
+    let mut out = MemSink::open(alloc, 4096, Vec::from_slice(alloc, faults.out)?)?;
+    let mut err = MemSink::open(alloc, 4096, Vec::from_slice(alloc, faults.err)?)?;
+    let status = answer(alloc, &words, &mut source, &mut out, &mut err);
+    assert_eq!(rt; status, wanted.status);
+    assert_eq!(rt; out.bytes(), wanted.out.as_bytes());
+    assert_eq!(rt; err.bytes(), wanted.err.as_bytes());
+    Ok(())
+}
+
+fn expect_trace(
+    rt: &impl Abort,
+    alloc: Global,
+    text: &str,
+    status: u8,
+    out: &str,
+) -> Result<(), Fail> {
+    let wanted = Wanted {
+        status,
+        out,
+        err: "",
+    };
+    expect_reply(rt, alloc, text.as_bytes(), &NONE, &wanted)
+}
+
+#[test]
+fn small_sources_are_simulated(rt: HostRuntime) -> Result<(), Fail> {
+    let rows = [
+        (
+            "system P = (skip) endsystem",
+            0,
+            "hcsp-trace 1\nend terminated 0\n",
+        ),
+        (
+            "system P = (wait(200)) endsystem",
+            0,
+            "hcsp-trace 1\n0 delay 100\nend horizon 100\n",
+        ),
+        (
+            "system P = (wait(1.5); c!2) || Q = (c?x) endsystem",
+            0,
+            "hcsp-trace 1\n0 delay 3/2\n3/2 comm c 2\nend terminated 3/2\n",
+        ),
+        (
+            "system P = (wait(0.000000000000000001)) || Q = (wait(1000)) endsystem",
+            11,
+            "hcsp-trace 1\nend overflow 0 *\n",
+        ),
+        (
+            "system P = (c!1) || Q = (d?x) endsystem",
+            10,
+            "hcsp-trace 1\nend deadlock 0\n",
+        ),
+        (
+            "system P = (b!1) || Q = (b?x) || R = (a!2) || S = (a?x) endsystem",
+            0,
+            "hcsp-trace 1\n0 comm b 1\n0 comm a 2\nend terminated 0\n",
+        ),
+        (
+            "system F = (wait(1); a!7) || M = (a?x; wait(1); b!8) || L = (b?y) endsystem",
+            0,
+            "hcsp-trace 1\n0 delay 1\n1 comm a 7\n1 delay 1\n2 comm b 8\nend terminated 2\n",
+        ),
+    ];
+    for (text, status, out) in rows {
+        expect_trace(&rt, rt.alloc(), text, status, out)?;
+    }
+    Ok(())
+}
+
+#[test]
+fn other_texts_are_not_built(rt: HostRuntime) -> Result<(), Fail> {
+    let rows = [
+        "system P = (log(1)) endsystem",
+        "",
+        "system P = (x := 9223372036854775808) endsystem",
+        "system P = (c!1) || Q = (c!1) endsystem",
+        "system P = (c!1; c?x) endsystem",
+        "system P = (skip) || P = (skip) endsystem",
+    ];
+    let wanted = Wanted {
+        status: 1,
+        out: "",
+        err: "hcsp: not built\n",
+    };
+    for text in rows {
+        expect_reply(&rt, rt.alloc(), text.as_bytes(), &NONE, &wanted)?;
+    }
+    Ok(())
+}
+
+const MEETING: &str = "system P = (wait(1.5); c!2) || Q = (c?x) endsystem";
+
+#[test]
+fn each_cut_of_a_source_is_refused(rt: HostRuntime) -> Result<(), Fail> {
+    let wanted = Wanted {
+        status: 1,
+        out: "",
+        err: "hcsp: not built\n",
+    };
+    let bytes = MEETING.as_bytes();
+    for end in 0..bytes.len() {
+        expect_reply(&rt, rt.alloc(), &bytes[..end], &NONE, &wanted)?;
+    }
+    Ok(())
+}
+
+#[test]
+fn a_fault_of_output_cuts_the_trace(rt: HostRuntime) -> Result<(), Fail> {
+    let rows = [
+        "",
+        "hcsp-trace 1\n",
+        "hcsp-trace 1\n0 delay 3/2\n",
+        "hcsp-trace 1\n0 delay 3/2\n3/2 comm c 2\n",
+        "hcsp-trace 1\n0 delay 3/2\n3/2 comm c 2\nend terminated 3/2\n",
+    ];
+    let mut call = 0;
+    for out in rows {
+        let faults = Faults {
+            source: &[],
+            out: &[call],
+            err: &[],
+        };
+        let wanted = Wanted {
+            status: 4,
+            out,
+            err: "",
+        };
+        expect_reply(&rt, rt.alloc(), MEETING.as_bytes(), &faults, &wanted)?;
+        call = call.saturating_add(1u64);
+    }
+    Ok(())
+}
+
+#[test]
+fn faults_of_reading_and_of_error_are_told(rt: HostRuntime) -> Result<(), Fail> {
+    let unread = Wanted {
+        status: 3,
+        out: "",
+        err: "hcsp: read failed\n",
+    };
+    for call in [0, 1] {
+        let faults = Faults {
+            source: &[call],
+            out: &[],
+            err: &[],
+        };
+        expect_reply(&rt, rt.alloc(), MEETING.as_bytes(), &faults, &unread)?;
+    }
+    let cut = Wanted {
+        status: 4,
+        out: "",
+        err: "",
+    };
+    let faults = Faults {
+        source: &[],
+        out: &[],
+        err: &[0],
+    };
+    expect_reply(&rt, rt.alloc(), b"system", &faults, &cut)
+}
+
+/// The stop of the canonical run, and the clock there.
+fn stop_of(
+    alloc: Global,
+    text: &str,
+    horizon: i64,
+    limit: u32,
+) -> Result<Option<(Stop, Frac)>, Fail> {
+    let bytes = text.as_bytes();
+    if bytes.len() > 1000 {
+        return Ok(None);
+    }
+    let Ok(system) = read_small(alloc, bytes) else {
+        return Ok(None);
+    };
+    let Some(horizon) = Frac::new(horizon, 1) else {
+        return Ok(None);
+    };
+    let Some(task) = Task::new(system, 0, horizon, limit) else {
+        return Ok(None);
+    };
+    let run = canonical_run(alloc, &task)?;
+    Ok(Some((run.stop, run.clock)))
+}
+
+#[test]
+fn runs_stop_at_the_limit_and_at_overflow(rt: HostRuntime) -> Result<(), Fail> {
+    let skips = stop_of(
+        rt.alloc(),
+        "system P = (skip; skip; skip; skip) endsystem",
+        100,
+        3,
+    )?;
+    assert_eq!(rt; skips, Some((Stop::Limit, Frac::zero())));
+    let ended = stop_of(
+        rt.alloc(),
+        "system P = (skip; skip; skip; skip) endsystem",
+        100,
+        5,
+    )?;
+    assert_eq!(rt; ended, Some((Stop::Terminated, Frac::zero())));
+    let most = 9_223_372_036_854_775_807;
+    let text = "system P = (wait(9223372036854775807); wait(1)) endsystem";
+    let Some(end) = Frac::new(most, 1) else {
+        return Ok(());
+    };
+    let overflow = stop_of(rt.alloc(), text, most, 10_000)?;
+    assert_eq!(rt; overflow, Some((Stop::Overflow { process: Some(0) }, end)));
+    Ok(())
+}
