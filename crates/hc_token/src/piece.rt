@@ -3,6 +3,7 @@
 ghost use Rattle.std.specs.Prelude.{◌≡◌, ◌<◌, ◌≤◌, length};
 ghost use Rattle.std.specs.List.{prefix_len};
 ghost use Rattle.hc_frac.specs.Word.{word_byte};
+ghost use Rattle.hc_token.specs.Kinds.{sign};
 ghost use Rattle.hc_token.specs.Pieces as spec;
 
 use crate::kind::{Kind, sign};
@@ -48,15 +49,24 @@ pub(crate) fn front_piece(text: &[u8]) -> Piece
                 lexeme: Some(number),
             }
         }
-        _ => match sign(text) {
-            Some((kind, len)) => Piece {
-                len,
-                lexeme: Some((kind, Content::Plain)),
-            },
-            None => Piece {
-                len: 1,
-                lexeme: Some((Kind::Other, Content::Plain)),
-            },
+        _ => sign_piece(text),
+    }
+}
+
+/// The sign at the front of a text, or one byte that begins no token.
+fn sign_piece(text: &[u8]) -> Piece
+    requires { 0 < length text.now }
+    ensures piece { result ≡ spec.sign_piece (sign text.now) }
+    ensures within { (1 ≤ result.len) × (result.len ≤ length text.now) }
+{
+    match sign(text) {
+        Some((kind, len)) => Piece {
+            len,
+            lexeme: Some((kind, Content::Plain)),
+        },
+        None => Piece {
+            len: 1,
+            lexeme: Some((Kind::Other, Content::Plain)),
         },
     }
 }
