@@ -1,0 +1,2 @@
+pub mod BareForms
+pub mod Mapped

@@ -1,0 +1,13 @@
+pub mod Bare
+pub mod Unplaced
+pub mod Leaves
+pub mod Exprs
+pub mod Conds
+pub mod Stmts
+pub mod StmtRoles
+pub mod StmtTrees
+pub mod Sources
+pub mod SourceRoles
+pub mod SourceTrees
+pub mod Counts
+pub mod Source

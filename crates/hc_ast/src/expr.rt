@@ -1,0 +1,147 @@
+//! Expressions and conditions.
+
+ghost use Rattle.std.specs.Prelude.{◌≡◌, IfOk};
+
+use hc_frac::{Decimal, Name, Place};
+use hc_list::Boxed;
+use std::alloc::{AllocError, Global};
+
+/// A sign between two expressions.
+#[derive(Clone, Copy, Debug, PartialEq, Eq)]
+pub enum Op {
+    Add,
+    Sub,
+    Mul,
+    Div,
+}
+
+/// How the two sides of a comparison are compared.
+#[derive(Clone, Copy, Debug, PartialEq, Eq)]
+pub enum Comparison {
+    Less,
+    AtMost,
+    Equal,
+    NotEqual,
+    AtLeast,
+    Greater,
+}
+
+/// An expression, at its sign, number or word.
+#[derive(Drop)]
+#[cycle(expr)]
+pub struct ExprTree {
+    pub place: Place,
+    pub kind: ExprKind,
+}
+
+/// What an expression is. Round brackets make no node.
+#[derive(Drop)]
+#[cycle(expr)]
+pub enum ExprKind {
+    Number(Decimal),
+    Name(Name),
+    Neg(Boxed<ExprTree>),
+    Binary(Op, Boxed<ExprTree>, Boxed<ExprTree>),
+}
+
+/// A condition, at its sign or word.
+#[derive(Drop)]
+#[cycle(cond)]
+pub struct CondTree {
+    pub place: Place,
+    pub kind: CondKind,
+}
+
+/// What a condition is. Square brackets make no node.
+#[derive(Drop)]
+#[cycle(cond)]
+pub enum CondKind {
+    True,
+    False,
+    Compare(Comparison, Boxed<ExprTree>, Boxed<ExprTree>),
+    Not(Boxed<CondTree>),
+    And(Boxed<CondTree>, Boxed<CondTree>),
+    Or(Boxed<CondTree>, Boxed<CondTree>),
+}
+
+impl ExprTree {
+    /// An equal expression.
+    #[cycle(expr_copies)]
+    pub fn copy(&self, alloc: Global) -> Result<ExprTree, AllocError>
+        ensures { IfOk result (λ t. t ≡ self.now) }
+    {
+        let kind = self.kind.copy(alloc)?;
+        Ok(ExprTree {
+            place: self.place,
+            kind,
+        })
+    }
+}
+
+impl ExprKind {
+    /// An equal expression.
+    #[cycle(expr_copies)]
+    pub fn copy(&self, alloc: Global) -> Result<ExprKind, AllocError>
+        ensures { IfOk result (λ t. t ≡ self.now) }
+    {
+        match self {
+            ExprKind::Number(number) => Ok(ExprKind::Number(*number)),
+            ExprKind::Name(name) => Ok(ExprKind::Name(name.copy())),
+            ExprKind::Neg(part) => {
+                let part = part.get().copy(alloc)?;
+                Ok(ExprKind::Neg(Boxed::new(alloc, part)?))
+            }
+            ExprKind::Binary(op, left, right) => {
+                let left = left.get().copy(alloc)?;
+                let right = right.get().copy(alloc)?;
+                Ok(ExprKind::Binary(*op, Boxed::new(alloc, left)?, Boxed::new(alloc, right)?))
+            }
+        }
+    }
+}
+
+impl CondTree {
+    /// An equal condition.
+    #[cycle(cond_copies)]
+    pub fn copy(&self, alloc: Global) -> Result<CondTree, AllocError>
+        ensures { IfOk result (λ t. t ≡ self.now) }
+    {
+        let kind = self.kind.copy(alloc)?;
+        Ok(CondTree {
+            place: self.place,
+            kind,
+        })
+    }
+}
+
+impl CondKind {
+    /// An equal condition.
+    #[cycle(cond_copies)]
+    pub fn copy(&self, alloc: Global) -> Result<CondKind, AllocError>
+        ensures { IfOk result (λ t. t ≡ self.now) }
+    {
+        match self {
+            CondKind::True => Ok(CondKind::True),
+            CondKind::False => Ok(CondKind::False),
+            CondKind::Compare(how, left, right) => {
+                let left = left.get().copy(alloc)?;
+                let right = right.get().copy(alloc)?;
+                Ok(CondKind::Compare(*how, Boxed::new(alloc, left)?, Boxed::new(alloc, right)?))
+            }
+            CondKind::Not(part) => {
+                let part = part.get().copy(alloc)?;
+                Ok(CondKind::Not(Boxed::new(alloc, part)?))
+            }
+            CondKind::And(left, right) => {
+                let left = left.get().copy(alloc)?;
+                let right = right.get().copy(alloc)?;
+                Ok(CondKind::And(Boxed::new(alloc, left)?, Boxed::new(alloc, right)?))
+            }
+            CondKind::Or(left, right) => {
+                let left = left.get().copy(alloc)?;
+                let right = right.get().copy(alloc)?;
+                Ok(CondKind::Or(Boxed::new(alloc, left)?, Boxed::new(alloc, right)?))
+            }
+        }
+    }
+}

@@ -1,0 +1,15 @@
+pub mod Sound
+pub mod Complete
+pub mod Viable
+pub mod Last
+pub mod Phrases
+pub mod Cuts
+pub mod Reached
+pub mod Settings
+pub mod Refused
+pub mod Passing
+pub mod Sure
+pub mod Found
+pub mod Exact
+pub mod Tables
+pub mod Steps

@@ -1,0 +1,10 @@
+pub mod Table
+pub mod Texts
+pub mod Derives
+pub mod Ll1
+pub mod Ends
+pub mod Reader
+pub mod Refusals
+pub mod Language
+pub mod Machine
+pub mod Answers
