@@ -1,5 +1,5 @@
 -- Tokens as the grammar names them, and what the tree takes from them.
-use Rattle.std.specs.Prelude.{◌≡◌, ℕ, List, [], Option, Some, None, refl}
+use Rattle.std.specs.Prelude.{◌≡◌, ℕ, List, [], ◌∷◌, Option, Some, None, refl}
 use Rattle.hc_frac.specs.declared.decimal.Decimal.{Decimal}
 use Rattle.hc_grammar.specs.Texts.{Text}
 use Rattle.hc_token.specs.declared.kind.Kind.{Kind}
@@ -47,12 +47,12 @@ comparison _ = None
 abbrev pub OfSign : {X : Type 0} → (Kind → Option X) → Type 0
 OfSign {X} table = (t : Token) × (x : X) × (table t.kind ≡ Some x)
 
--- the name that a token says
+-- the name that a token says; names and rates say one, and for any other token it is `x`
 abbrev pub name_in : Content → List ℕ
 name_in (says.Name w) = w
-name_in _ = []
+name_in _ = 120 ∷ []
 
--- the number that a token says
+-- the number that a token says; numbers say one, and for any other token it is 0
 abbrev pub number_in : Content → Decimal
 number_in (says.Number d) = d
 number_in _ = decimal 0 0 refl
