@@ -1,0 +1,16 @@
+pub mod Tabled
+pub mod Derive
+pub mod DeriveStmts
+pub mod DeriveSources
+pub mod Examples
+pub mod Phrase
+pub mod CloseExprs
+pub mod CloseStmts
+pub mod CloseSources
+pub mod Built
+pub mod BuiltStmts
+pub mod BuiltSources
+pub mod Readable
+pub mod Taking
+pub mod Answered
+pub mod OneAnswer

@@ -1,0 +1,11 @@
+use Rattle.hc_parse.proofs.OneAnswer.{one_tree, one_refusal, not_refused}
+use Rattle.hc_parse.proofs.laws.texts.Goals as goal
+
+pub returns-clause-one_tree : goal.returns-clause-one_tree
+returns-clause-one_tree c = one_tree
+
+pub returns-clause-one_refusal : goal.returns-clause-one_refusal
+returns-clause-one_refusal c = one_refusal
+
+pub returns-clause-not_refused : goal.returns-clause-not_refused
+returns-clause-not_refused c = not_refused

@@ -1,0 +1,10 @@
+pub mod Symbols
+pub mod Rows
+pub mod RowOf
+pub mod Table
+pub mod Builder
+pub mod Language
+pub mod Counted
+pub mod Remaining
+pub mod Stops
+pub mod Laws

@@ -1,0 +1,76 @@
+//! What is counted along a source.
+
+ghost use Rattle.std.specs.Prelude.{◌≡◌, ◌≤◌, OnOk, IfErr};
+ghost use Rattle.hc_ast.specs.Counts as spec;
+
+use hc_ast::{Mark, Role};
+
+/// What may be wrong with a token.
+#[derive(Clone, Copy, Debug, PartialEq, Eq)]
+pub(crate) enum Flaw {
+    NameTooLong,
+    NumberUnfit,
+    Syntax,
+    TooDeep,
+    TooManyNodes,
+}
+
+/// Open items, and the nodes of the outermost expression or condition so far.
+#[derive(Clone, Copy, Debug)]
+pub(crate) struct Counts {
+    open_items: u32,
+    nodes: u32,
+    ghost few_items: { open_items ≤ 64 },
+    ghost few_nodes: { nodes ≤ 200 },
+}
+
+impl Counts {
+    ghost use Rattle.hc_parse.specs.Counted.{counted, flaw_of};
+
+    /// Before the first token.
+    pub(crate) fn new() -> Self
+        ensures { counted result ≡ spec.opening }
+    {
+        Counts {
+            open_items: 0,
+            nodes: 0,
+        }
+    }
+
+    /// Counts a token in its role, if it goes beyond no limit.
+    pub(crate) fn token(&mut self, role: Role) -> Result<(), Flaw>
+        ensures ok { OnOk result (counted self.new ≡ spec.after_token role (counted self.old)) }
+        ensures within { OnOk result (spec.beyond role (counted self.old) ≡ None) }
+        ensures err { IfErr result (λ flaw. spec.beyond role (counted self.old) ≡ Some (flaw_of flaw)) }
+    {
+        let opens = matches!(role, Role::Prefix | Role::Begin | Role::Open);
+        let is_node = matches!(role, Role::Leaf | Role::Operator | Role::Prefix);
+        if opens && self.open_items >= 64 {
+            return Err(Flaw::TooDeep);
+        }
+        if is_node && self.nodes >= 200 {
+            return Err(Flaw::TooManyNodes);
+        }
+        if opens {
+            self.open_items += 1;
+        }
+        if is_node {
+            self.nodes += 1;
+        }
+        if role == Role::Close {
+            self.open_items = self.open_items.saturating_sub(1);
+        }
+        Ok(())
+    }
+
+    /// Counts a mark.
+    pub(crate) fn mark(&mut self, mark: Mark)
+        ensures { counted self.new ≡ spec.after_mark mark (counted self.old) }
+    {
+        match mark {
+            Mark::Negate | Mark::Not => self.open_items = self.open_items.saturating_sub(1),
+            Mark::Fresh => self.nodes = 0,
+            _ => {}
+        }
+    }
+}

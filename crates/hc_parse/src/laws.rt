@@ -1,0 +1,10 @@
+//! Laws of the definitions.
+
+ghost use Rattle.hc_parse.specs.Laws.{OneTree, OneRefusal, SourcesAreNotRefused};
+
+/// What holds of all texts. There is nothing to run: the clauses are the laws.
+pub fn texts()
+    ensures one_tree { OneTree }
+    ensures one_refusal { OneRefusal }
+    ensures not_refused { SourcesAreNotRefused }
+{}
