@@ -1,0 +1,146 @@
+//! Expressions and conditions.
+
+ghost use Rattle.std.specs.Prelude.{◌≡◌, ◌∷◌, OnOk};
+ghost use Rattle.hc_ast.specs.Unplaced.{bare_expr, bare_cond};
+ghost use Rattle.hc_print.specs.Lexemes.{fixed};
+ghost use Rattle.hc_print.specs.Appends.{Writes};
+ghost use Rattle.hc_print.specs.CanonExprs as canon;
+
+use crate::level::Level;
+use crate::writer::Writer;
+use hc_ast::{Comparison, CondKind, CondTree, ExprKind, ExprTree, Op};
+use hc_token::Kind;
+use std::alloc::{AllocError, Global};
+
+/// An expression, in round brackets where it needs them.
+#[tactic(auto, using(crate::proofs::Forms::forms))]
+pub(crate) fn write_expr(out: &mut Writer, tree: &ExprTree, level: Level) -> Result<(), AllocError>
+    ensures { OnOk result (Writes out.old.bytes.items out.new.bytes.items (canon.expr (bare_expr tree.now) level)) }
+{
+    match &tree.kind {
+        ExprKind::Number(number) => out.number(*number),
+        ExprKind::Name(name) => out.name(name),
+        ExprKind::Neg(part) => {
+            out.sign(Kind::Minus)?;
+            write_expr(out, part.get(), Level::Tight)
+        }
+        ExprKind::Binary(op, left, right) => {
+            let brackets = needs_round(*op, level);
+            out.sign_if(brackets, Kind::OpenRound)?;
+            write_expr(out, left.get(), left_of(*op))?;
+            out.sign(op_sign(*op))?;
+            write_expr(out, right.get(), right_of(*op))?;
+            out.sign_if(brackets, Kind::CloseRound)
+        }
+    }
+}
+
+/// A condition, in square brackets where it needs them.
+#[tactic(auto, using(crate::proofs::Forms::forms))]
+pub(crate) fn write_cond(out: &mut Writer, tree: &CondTree, level: Level) -> Result<(), AllocError>
+    ensures { OnOk result (Writes out.old.bytes.items out.new.bytes.items (canon.cond (bare_cond tree.now) level)) }
+{
+    match &tree.kind {
+        CondKind::True => out.sign(Kind::True),
+        CondKind::False => out.sign(Kind::False),
+        CondKind::Compare(how, left, right) => {
+            write_expr(out, left.get(), Level::Alone)?;
+            out.sign(comparison_sign(*how))?;
+            write_expr(out, right.get(), Level::Alone)
+        }
+        CondKind::Not(part) => {
+            out.sign(Kind::Exclamation)?;
+            write_cond(out, part.get(), Level::Tight)
+        }
+        CondKind::And(left, right) => {
+            let brackets = both_needs_square(level);
+            out.sign_if(brackets, Kind::OpenSquare)?;
+            write_cond(out, left.get(), Level::Inner)?;
+            out.sign(Kind::AndAnd)?;
+            write_cond(out, right.get(), Level::Tight)?;
+            out.sign_if(brackets, Kind::CloseSquare)
+        }
+        CondKind::Or(left, right) => {
+            let brackets = either_needs_square(level);
+            out.sign_if(brackets, Kind::OpenSquare)?;
+            write_cond(out, left.get(), Level::Alone)?;
+            out.sign(Kind::BarBar)?;
+            write_cond(out, right.get(), Level::Inner)?;
+            out.sign_if(brackets, Kind::CloseSquare)
+        }
+    }
+}
+
+fn op_sign(op: Op) -> Kind
+    ensures { result ≡ canon.op_sign op }
+{
+    match op {
+        Op::Add => Kind::Plus,
+        Op::Sub => Kind::Minus,
+        Op::Mul => Kind::Star,
+        Op::Div => Kind::Slash,
+    }
+}
+
+fn comparison_sign(how: Comparison) -> Kind
+    ensures { result ≡ canon.comparison_sign how }
+{
+    match how {
+        Comparison::Less => Kind::Less,
+        Comparison::AtMost => Kind::LessEqual,
+        Comparison::Equal => Kind::EqualEqual,
+        Comparison::NotEqual => Kind::NotEqual,
+        Comparison::AtLeast => Kind::GreaterEqual,
+        Comparison::Greater => Kind::Greater,
+    }
+}
+
+/// Where the left operand of a sign stands.
+fn left_of(op: Op) -> Level
+    ensures { result ≡ canon.left_of op }
+{
+    match op {
+        Op::Add | Op::Sub => Level::Alone,
+        Op::Mul | Op::Div => Level::Inner,
+    }
+}
+
+/// Where the right operand of a sign stands.
+fn right_of(op: Op) -> Level
+    ensures { result ≡ canon.right_of op }
+{
+    match op {
+        Op::Add | Op::Sub => Level::Inner,
+        Op::Mul | Op::Div => Level::Tight,
+    }
+}
+
+/// Whether an expression of this sign needs round brackets where it stands.
+fn needs_round(op: Op, level: Level) -> bool
+    ensures { result ≡ canon.needs_round op level }
+{
+    match (level, op) {
+        (Level::Alone, _) | (Level::Inner, Op::Mul | Op::Div) => false,
+        (Level::Inner, Op::Add | Op::Sub) | (Level::Tight, _) => true,
+    }
+}
+
+/// Whether an `&&` needs square brackets where it stands.
+fn both_needs_square(level: Level) -> bool
+    ensures { result ≡ canon.both_needs_square level }
+{
+    match level {
+        Level::Alone | Level::Inner => false,
+        Level::Tight => true,
+    }
+}
+
+/// Whether an `||` needs square brackets where it stands.
+fn either_needs_square(level: Level) -> bool
+    ensures { result ≡ canon.either_needs_square level }
+{
+    match level {
+        Level::Alone => false,
+        Level::Inner | Level::Tight => true,
+    }
+}
