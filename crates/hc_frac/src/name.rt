@@ -4,9 +4,13 @@ ghost use Rattle.std.specs.Prelude.{◌≡◌, SomeIff, nat_eq};
 ghost use Rattle.std.specs.List.{list_all};
 ghost use Rattle.std.specs.Cmp.{partial_equiv_from_equiv};
 ghost use Rattle.std.specs.Cmp.Lexicographic.{pointwise, nat_list_eq_equiv};
+ghost use Rattle.std.specs.Hash as fed;
+ghost use Rattle.std.proofs.Common.{rules};
+ghost use Rattle.std.specs.Cmp.Rules.{hashing};
 ghost use Rattle.hc_frac.specs.Word.{IsWord, word_byte};
 
 use arrayvec::ArrayString;
+use std::hash::{Hash, Hasher};
 use std::marker::Model;
 
 /// A word of 1 to 64 bytes: a letter, and then letters, digits and underlines.
@@ -74,6 +78,16 @@ impl PartialEq for Name {
 
 impl Eq for Name {
     ghost laws = { nat_list_eq_equiv };
+}
+
+impl Hash for Name {
+    ghost hash_input = { fed.str };
+
+    ghost respects_eq = { Prim.search (hashing, rules) };
+
+    fn hash<H: Hasher>(&self, state: &mut H) {
+        self.text().hash(state);
+    }
 }
 
 /// Whether all bytes are letters, digits and underlines.

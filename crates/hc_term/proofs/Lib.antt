@@ -18,3 +18,4 @@ pub mod Clock
 pub mod Bodies
 pub mod Handed
 pub mod Reached
+pub mod Evaluating

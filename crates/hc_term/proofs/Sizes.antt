@@ -1,9 +1,7 @@
 -- The number of statements, and of nodes, one equation for each form of a statement.
 use Rattle.std.proofs.Common.{rules, ◌≡◌, ℕ, ◌+◌, List, sum_by}
 use Rattle.std.proofs.lemmas.List.Sums.{sum-map}
-use Rattle.hc_term.specs.declared.expr.Expr.{Expr}
 use Rattle.hc_term.specs.declared.expr.Cond.{Cond}
-use Rattle.hc_term.specs.declared.stmt.Io.{Io}
 use Rattle.hc_term.specs.declared.stmt.Rate.{Rate}
 use Rattle.hc_term.specs.declared.stmt.Stmt.{Stmt, the_lemmas}
 use Rattle.hc_term.specs.declared.stmt.Stmt.TheViews as seen

@@ -1,5 +1,5 @@
 -- The canonical run: at each configuration the ready channel of least number; else the silent step of the least process that wants one; else the delay.
-use Rattle.std.specs.Prelude.{◌≡◌, ℕ, zero, suc, ◌+◌, Bool, true, false, if◌then◌else◌, List, [], ◌∷◌, Option, Some, None}
+use Rattle.std.specs.Prelude.{ℕ, zero, suc, ◌+◌, if◌then◌else◌, List, [], ◌∷◌, Option, Some, None}
 use Rattle.hc_term.specs.declared.task.Task.{Task}
 use Rattle.hc_term.specs.declared.run.Step.{Step}
 use Rattle.hc_term.specs.declared.run.Step.TheVariants.{Silent, Comm, Delay}

@@ -1,6 +1,6 @@
 -- What a communication and a delay do to one process.
-use Rattle.std.specs.Prelude.{◌≡◌, ℕ, Bool, ◌==◌, if◌then◌else◌, List, [], ◌∷◌, ◌++◌, slice_set}
-use Rattle.hc_rational.specs.Words.{Rational, zero_ℚ, ◌-ℚ◌}
+use Rattle.std.specs.Prelude.{ℕ, ◌==◌, if◌then◌else◌, List, [], ◌∷◌, ◌++◌, slice_set}
+use Rattle.hc_rational.specs.Words.{Rational, ◌-ℚ◌}
 use Rattle.hc_term.specs.declared.stmt.Io.{Io}
 use Rattle.hc_term.specs.declared.stmt.Io.TheVariants.{Send, Receive}
 use Rattle.hc_term.specs.declared.stmt.Stmt.{Stmt, out-Stmt}

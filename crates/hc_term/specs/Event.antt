@@ -1,5 +1,5 @@
 -- One event of the program that runs on threads: what one process does, and what follows from it.
-use Rattle.std.specs.Prelude.{◌≡◌, ◌<◌, ◌≤◌, ℕ, zero, suc, ◌-◌, min, Bool, if◌then◌else◌, List, [], ◌∷◌, ◌++◌, length, slice_get, Option, Some, None, ◌⊎◌}
+use Rattle.std.specs.Prelude.{◌≡◌, ◌<◌, ℕ, zero, suc, ◌-◌, min, if◌then◌else◌, List, [], ◌∷◌, ◌++◌, length, slice_get, Option, Some, None, ◌⊎◌}
 use Rattle.hc_rational.specs.Words.{Rational}
 use Rattle.hc_term.specs.declared.task.Task.{Task}
 use Rattle.hc_term.specs.declared.run.Step.TheVariants.{Silent, Comm, Delay}
@@ -14,7 +14,7 @@ use Rattle.hc_term.specs.declared.model.Configuration.{Configuration}
 use Rattle.hc_term.specs.Process.{is_done}
 use Rattle.hc_term.specs.Silent.{Outcome, Idle, Unfit, Did, silent}
 use Rattle.hc_term.specs.Posts.{Passing, NoBound, AtHorizon, TooLarge, Took}
-use Rattle.hc_term.specs.Step.{ready, passing, replaced, met, delayed, Leads}
+use Rattle.hc_term.specs.Step.{ready, passing, replaced, met, delayed}
 use Rattle.hc_term.specs.Stop.{StopsAt}
 use Rattle.hc_term.specs.Canonical.{ended_by}
 

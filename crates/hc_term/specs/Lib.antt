@@ -1,4 +1,5 @@
 pub mod Value
+pub mod Evaluated
 pub mod Motion
 pub mod EndMoment
 pub mod Profile

@@ -1,5 +1,5 @@
 -- What a process shows to the others: its phase, its bound, its evolving variables and its offers.
-use Rattle.std.specs.Prelude.{◌≡◌, ℕ, Bool, if◌then◌else◌, List, [], ◌∷◌, map, slice_index_or, Option, Some, None}
+use Rattle.std.specs.Prelude.{if◌then◌else◌, List, [], ◌∷◌, map, slice_index_or, Option, Some, None}
 use Rattle.hc_rational.specs.Words.{Rational, zero_ℚ, ◌+ℚ◌, is_positive}
 use Rattle.hc_term.specs.declared.stmt.Io.{Io}
 use Rattle.hc_term.specs.declared.stmt.Io.TheVariants.{Send, Receive}

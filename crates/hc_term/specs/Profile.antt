@@ -1,5 +1,5 @@
 -- The rules that a checked system keeps, as tests: expressions, communications and evolutions.
-use Rattle.std.specs.Prelude.{◌≡◌, ℕ, ◌+◌, Bool, true, false, not, ◌&&◌, ◌==◌, nat_le, nat_lt, max, List, [], ◌∷◌, length, map, replicate, slice_set, Option, Some, None}
+use Rattle.std.specs.Prelude.{ℕ, ◌+◌, Bool, true, false, not, ◌&&◌, ◌==◌, nat_le, nat_lt, max, List, [], ◌∷◌, length, map, replicate, slice_set, Some, None}
 use Rattle.std.specs.List.{list_all, list_any}
 use Rattle.hc_rational.specs.Words.{zero_ℚ}
 use Rattle.hc_term.specs.declared.expr.Expr.{Expr, fold-Expr}

@@ -1,5 +1,5 @@
 -- Where a run stops, and behaviours.
-use Rattle.std.specs.Prelude.{◌≡◌, ◌<◌, ℕ, Bool, true, false, List, length, Option, Some, None, ◌⊎◌}
+use Rattle.std.specs.Prelude.{◌≡◌, ◌<◌, ℕ, true, false, List, length, Some, None, ◌⊎◌}
 use Rattle.hc_term.specs.declared.task.Task.{Task}
 use Rattle.hc_term.specs.declared.run.Item.{Item}
 use Rattle.hc_term.specs.declared.run.Stop.{Stop}

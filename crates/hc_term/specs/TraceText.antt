@@ -1,5 +1,5 @@
 -- The text of a run.
-use Rattle.std.specs.Prelude.{◌≡◌, ℕ, List, [], ◌∷◌, ◌++◌, slice_get, Option, Some, None, codes}
+use Rattle.std.specs.Prelude.{ℕ, List, [], ◌∷◌, ◌++◌, slice_get, Option, Some, None, codes}
 use Rattle.hc_rational.specs.Words.{Rational}
 use Rattle.hc_frac.specs.Text.{text_of}
 use Rattle.hc_term.specs.declared.system.Process.{Process}

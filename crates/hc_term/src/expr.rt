@@ -1,7 +1,10 @@
 //! Expressions and conditions over numbered variables.
 
+ghost use Rattle.std.specs.Prelude.{◌≡◌, IfOk};
+
 use hc_frac::Frac;
 use hc_list::Boxed;
+use std::alloc::{AllocError, Global};
 
 /// A sign between two expressions.
 #[derive(Clone, Copy, Debug, PartialEq, Eq)]
@@ -41,4 +44,56 @@ pub enum Cond {
     Not(Boxed<Cond>),
     And(Boxed<Cond>, Boxed<Cond>),
     Or(Boxed<Cond>, Boxed<Cond>),
+}
+
+impl Expr {
+    /// An equal expression.
+    pub fn copy(&self, alloc: Global) -> Result<Expr, AllocError>
+        ensures { IfOk result (λ t. t ≡ self.now) }
+    {
+        match self {
+            Expr::Number(number) => Ok(Expr::Number(*number)),
+            Expr::Variable(variable) => Ok(Expr::Variable(*variable)),
+            Expr::Neg(part) => {
+                let part = part.get().copy(alloc)?;
+                Ok(Expr::Neg(Boxed::new(alloc, part)?))
+            }
+            Expr::Binary(op, left, right) => {
+                let left = left.get().copy(alloc)?;
+                let right = right.get().copy(alloc)?;
+                Ok(Expr::Binary(*op, Boxed::new(alloc, left)?, Boxed::new(alloc, right)?))
+            }
+        }
+    }
+}
+
+impl Cond {
+    /// An equal condition.
+    pub fn copy(&self, alloc: Global) -> Result<Cond, AllocError>
+        ensures { IfOk result (λ t. t ≡ self.now) }
+    {
+        match self {
+            Cond::True => Ok(Cond::True),
+            Cond::False => Ok(Cond::False),
+            Cond::Compare(how, left, right) => {
+                let left = left.get().copy(alloc)?;
+                let right = right.get().copy(alloc)?;
+                Ok(Cond::Compare(*how, Boxed::new(alloc, left)?, Boxed::new(alloc, right)?))
+            }
+            Cond::Not(part) => {
+                let part = part.get().copy(alloc)?;
+                Ok(Cond::Not(Boxed::new(alloc, part)?))
+            }
+            Cond::And(left, right) => {
+                let left = left.get().copy(alloc)?;
+                let right = right.get().copy(alloc)?;
+                Ok(Cond::And(Boxed::new(alloc, left)?, Boxed::new(alloc, right)?))
+            }
+            Cond::Or(left, right) => {
+                let left = left.get().copy(alloc)?;
+                let right = right.get().copy(alloc)?;
+                Ok(Cond::Or(Boxed::new(alloc, left)?, Boxed::new(alloc, right)?))
+            }
+        }
+    }
 }

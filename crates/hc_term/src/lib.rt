@@ -1,6 +1,7 @@
 //! The terms of a checked system, and what they mean: the definitions stand in `specs/`.
 #![tactic(auto)]
 
+mod evaluation;
 mod expr;
 mod form;
 mod laws;
@@ -14,6 +15,7 @@ mod stmt;
 mod system;
 mod task;
 
+pub use evaluation::{holds, value};
 pub use expr::{Comparison, Cond, Expr, Op};
 pub use form::{Form, form_of, is_affine};
 pub use laws::{events, runs, runs_from_opening};

@@ -1,8 +1,12 @@
 //! Configurations, as the definitions speak of them.
 
+ghost use Rattle.std.specs.Prelude.{◌≡◌, IfOk};
+
 use crate::Stmt;
+use crate::stmt::copy_statements;
 use hc_frac::Frac;
 use hc_list::List;
+use std::alloc::{AllocError, Global};
 
 /// Whether a process has arrived at the first of its statements.
 #[derive(Clone, Copy, Debug, PartialEq, Eq)]
@@ -38,4 +42,43 @@ pub struct Meeting {
     pub sender: u32,
     pub receiver: u32,
     pub value: Frac,
+}
+
+impl ProcessState {
+    /// An equal configuration.
+    pub fn copy(&self, alloc: Global) -> Result<ProcessState, AllocError>
+        ensures { IfOk result (λ t. t ≡ self.now) }
+    {
+        let todo = copy_statements(alloc, self.todo.as_slice())?;
+        let store = List::from_slice(alloc, self.store.as_slice())?;
+        Ok(ProcessState {
+            todo,
+            store,
+            choices: self.choices,
+            mark: self.mark,
+        })
+    }
+}
+
+impl Configuration {
+    /// An equal configuration.
+    pub fn copy(&self, alloc: Global) -> Result<Configuration, AllocError>
+        ensures { IfOk result (λ t. t ≡ self.now) }
+    {
+        let processes = copy_states(alloc, self.processes.as_slice())?;
+        Ok(Configuration {
+            clock: self.clock,
+            processes,
+        })
+    }
+}
+
+fn copy_states(alloc: Global, states: &[ProcessState]) -> Result<List<ProcessState>, AllocError>
+    ensures { IfOk result (λ found. found ≡ states.now) }
+{
+    let mut found = List::new(alloc);
+    for state in states {
+        found.push(state.copy(alloc)?)?;
+    }
+    Ok(found)
 }

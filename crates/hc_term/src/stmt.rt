@@ -1,7 +1,10 @@
 //! Statements.
 
+ghost use Rattle.std.specs.Prelude.{◌≡◌, IfOk};
+
 use crate::{Cond, Expr};
 use hc_list::List;
+use std::alloc::{AllocError, Global};
 
 /// One side of a communication: what is sent on a channel, or the variable that what comes is put into.
 #[derive(Drop)]
@@ -72,4 +75,152 @@ pub enum Stmt {
 pub struct Branch {
     pub io: Io,
     pub body: List<Stmt>,
+}
+
+impl Io {
+    /// An equal communication.
+    pub fn copy(&self, alloc: Global) -> Result<Io, AllocError>
+        ensures { IfOk result (λ t. t ≡ self.now) }
+    {
+        match self {
+            Io::Send { channel, value } => {
+                let value = value.copy(alloc)?;
+                Ok(Io::Send {
+                    channel: *channel,
+                    value,
+                })
+            }
+            Io::Receive { channel, variable } => Ok(Io::Receive {
+                channel: *channel,
+                variable: *variable,
+            }),
+        }
+    }
+}
+
+impl Rate {
+    /// An equal rate.
+    pub fn copy(&self, alloc: Global) -> Result<Rate, AllocError>
+        ensures { IfOk result (λ t. t ≡ self.now) }
+    {
+        let value = self.value.copy(alloc)?;
+        Ok(Rate {
+            variable: self.variable,
+            value,
+        })
+    }
+}
+
+fn copy_rates(alloc: Global, rates: &[Rate]) -> Result<List<Rate>, AllocError>
+    ensures { IfOk result (λ found. found ≡ rates.now) }
+{
+    let mut found = List::new(alloc);
+    for rate in rates {
+        found.push(rate.copy(alloc)?)?;
+    }
+    Ok(found)
+}
+
+impl Stmt {
+    /// An equal statement.
+    #[cycle(stmt_copies)]
+    pub fn copy(&self, alloc: Global) -> Result<Stmt, AllocError>
+        ensures { IfOk result (λ t. t ≡ self.now) }
+    {
+        match self {
+            Stmt::Skip => Ok(Stmt::Skip),
+            Stmt::Assign { variable, value } => {
+                let value = value.copy(alloc)?;
+                Ok(Stmt::Assign {
+                    variable: *variable,
+                    value,
+                })
+            }
+            Stmt::Wait { time } => {
+                let time = time.copy(alloc)?;
+                Ok(Stmt::Wait { time })
+            }
+            Stmt::Io(io) => {
+                let io = io.copy(alloc)?;
+                Ok(Stmt::Io(io))
+            }
+            Stmt::Log { value } => {
+                let value = value.copy(alloc)?;
+                Ok(Stmt::Log { value })
+            }
+            Stmt::If { test, yes, no } => {
+                let test = test.copy(alloc)?;
+                let yes = copy_statements(alloc, yes.as_slice())?;
+                let no = copy_statements(alloc, no.as_slice())?;
+                Ok(Stmt::If { test, yes, no })
+            }
+            Stmt::Pick { left, right } => {
+                let left = copy_statements(alloc, left.as_slice())?;
+                let right = copy_statements(alloc, right.as_slice())?;
+                Ok(Stmt::Pick { left, right })
+            }
+            Stmt::Forever { body } => {
+                let body = copy_statements(alloc, body.as_slice())?;
+                Ok(Stmt::Forever { body })
+            }
+            Stmt::Loop { test, body } => {
+                let test = test.copy(alloc)?;
+                let body = copy_statements(alloc, body.as_slice())?;
+                Ok(Stmt::Loop { test, body })
+            }
+            Stmt::Choice { branches } => {
+                let branches = copy_branches(alloc, branches.as_slice())?;
+                Ok(Stmt::Choice { branches })
+            }
+            Stmt::Evolve {
+                rates,
+                domain,
+                branches,
+            } => {
+                let rates = copy_rates(alloc, rates.as_slice())?;
+                let domain = domain.copy(alloc)?;
+                let branches = copy_branches(alloc, branches.as_slice())?;
+                Ok(Stmt::Evolve {
+                    rates,
+                    domain,
+                    branches,
+                })
+            }
+        }
+    }
+}
+
+impl Branch {
+    /// An equal branch.
+    #[cycle(stmt_copies)]
+    pub fn copy(&self, alloc: Global) -> Result<Branch, AllocError>
+        ensures { IfOk result (λ t. t ≡ self.now) }
+    {
+        let io = self.io.copy(alloc)?;
+        let body = copy_statements(alloc, self.body.as_slice())?;
+        Ok(Branch { io, body })
+    }
+}
+
+/// Equal statements, in their order.
+#[cycle(stmt_copies)]
+pub(crate) fn copy_statements(alloc: Global, stmts: &[Stmt]) -> Result<List<Stmt>, AllocError>
+    ensures { IfOk result (λ found. found ≡ stmts.now) }
+{
+    let mut found = List::new(alloc);
+    for stmt in stmts {
+        found.push(stmt.copy(alloc)?)?;
+    }
+    Ok(found)
+}
+
+#[cycle(stmt_copies)]
+fn copy_branches(alloc: Global, branches: &[Branch]) -> Result<List<Branch>, AllocError>
+    ensures { IfOk result (λ found. found ≡ branches.now) }
+{
+    let mut found = List::new(alloc);
+    for branch in branches {
+        found.push(branch.copy(alloc)?)?;
+    }
+    Ok(found)
 }

@@ -1,12 +1,14 @@
 //! Processes and systems.
 
-ghost use Rattle.std.specs.Prelude.{◌≡◌, ◌↔◌, IsTrue, IsSome, IfSome};
+ghost use Rattle.std.specs.Prelude.{◌≡◌, ◌↔◌, IsTrue, IsSome, IfSome, IfOk};
 ghost use Rattle.hc_term.specs.Rules.{keeps_rules};
 
 use crate::Stmt;
 use crate::rules::are_ruled;
+use crate::stmt::copy_statements;
 use hc_frac::Name;
 use hc_list::List;
+use std::alloc::{AllocError, Global};
 
 /// A process. Its variables go by their places in the list of their names.
 #[derive(Drop)]
@@ -38,4 +40,51 @@ impl System {
             channels,
         })
     }
+
+    /// An equal system.
+    pub fn copy(&self, alloc: Global) -> Result<System, AllocError>
+        ensures { IfOk result (λ t. t ≡ self.now) }
+    {
+        let processes = copy_processes(alloc, self.processes.as_slice())?;
+        let channels = copy_names(alloc, self.channels.as_slice())?;
+        Ok(System {
+            processes,
+            channels,
+        })
+    }
+}
+
+impl Process {
+    /// An equal process.
+    pub fn copy(&self, alloc: Global) -> Result<Process, AllocError>
+        ensures { IfOk result (λ t. t ≡ self.now) }
+    {
+        let variables = copy_names(alloc, self.variables.as_slice())?;
+        let body = copy_statements(alloc, self.body.as_slice())?;
+        Ok(Process {
+            name: self.name.copy(),
+            variables,
+            body,
+        })
+    }
+}
+
+fn copy_names(alloc: Global, names: &[Name]) -> Result<List<Name>, AllocError>
+    ensures { IfOk result (λ found. found ≡ names.now) }
+{
+    let mut found = List::new(alloc);
+    for name in names {
+        found.push(name.copy())?;
+    }
+    Ok(found)
+}
+
+fn copy_processes(alloc: Global, processes: &[Process]) -> Result<List<Process>, AllocError>
+    ensures { IfOk result (λ found. found ≡ processes.now) }
+{
+    let mut found = List::new(alloc);
+    for process in processes {
+        found.push(process.copy(alloc)?)?;
+    }
+    Ok(found)
 }

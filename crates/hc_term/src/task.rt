@@ -1,10 +1,11 @@
 //! Tasks.
 
-ghost use Rattle.std.specs.Prelude.{◌≡◌, ◌≤◌, ◌↔◌, IsTrue, IsSome, IfSome};
+ghost use Rattle.std.specs.Prelude.{◌≡◌, ◌≤◌, ◌↔◌, IsTrue, IsSome, IfSome, IfOk};
 ghost use Rattle.hc_rational.specs.Words.{is_positive};
 
 use crate::System;
 use hc_frac::Frac;
+use std::alloc::{AllocError, Global};
 
 /// The least and the greatest number of steps to which a run may be limited.
 pub const LEAST_LIMIT: u32 = 1;
@@ -41,6 +42,19 @@ impl Task {
             seed,
             horizon,
             limit,
+        })
+    }
+
+    /// An equal task.
+    pub fn copy(&self, alloc: Global) -> Result<Task, AllocError>
+        ensures { IfOk result (λ t. t ≡ self.now) }
+    {
+        let system = self.system.copy(alloc)?;
+        Ok(Task {
+            system,
+            seed: self.seed,
+            horizon: self.horizon,
+            limit: self.limit,
         })
     }
 }

@@ -1,4 +1,4 @@
-use Rattle.std.proofs.Common.{◌≡◌, ap, ◌∙◌, take, replicate, None, List, Option}
+use Rattle.std.proofs.Common.{ap, ◌∙◌, None, List, Option}
 use Rattle.std.proofs.lemmas.List.{take-replicate}
 use Rattle.hc_rational.specs.Words.{Rational}
 use Rattle.hc_term.specs.Profile.{pattern_from}

@@ -1,4 +1,4 @@
-use Rattle.std.proofs.Common.{◌≡◌, sym, ◌∙◌}
+use Rattle.std.proofs.Common.{sym, ◌∙◌}
 use Rattle.hc_term.specs.Rules.{is_joined}
 use Rattle.hc_term.proofs.Used.{all_below-false}
 use Rattle.hc_term.proofs.rules.are_joined_below.Goals as goal

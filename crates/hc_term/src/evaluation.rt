@@ -1,0 +1,112 @@
+//! The values of expressions and the truth of conditions.
+
+ghost use Rattle.std.specs.Prelude.{◌≡◌, ◌≢◌, ◌≤◌, [], pos, length, true, IsTrue, IfOk};
+ghost use Rattle.hc_rational.specs.Words.{fits};
+ghost use Rattle.hc_term.specs.declared.expr.Op.TheVariants.{Div};
+ghost use Rattle.hc_term.specs.Value.{work, applied, answer};
+ghost use Rattle.hc_term.specs.Motion.{form};
+ghost use Rattle.hc_term.specs.EndMoment.{is_domain};
+ghost use Rattle.hc_term.specs.Profile.{reach, reach_in};
+ghost use Rattle.hc_term.specs.Evaluated.{if_fitting, value_in, truth_in};
+
+use crate::{Comparison, Cond, Expr, Op, Unfit};
+use hc_frac::Frac;
+use std::cmp::Ordering;
+
+/// The value of an expression in this store, or `Unfit` exactly where the value of some part doesn't fit a fraction.
+/// The store has all its variables, and its divisors are numbers other than 0.
+pub fn value(expr: &Expr, store: &[Frac]) -> Result<Frac, Unfit>
+    requires in_range { reach expr.now ≤ length store.now }
+    requires divisors { IsTrue (form [] expr.now).affine }
+    ensures { result ≡ value_in store.now expr.now }
+{
+    evaluated(expr, store)
+}
+
+/// The same, with what the recursion needs to know: the value is the one that the parts are worked from, and that of
+/// a divisor isn't 0.
+fn evaluated(expr: &Expr, store: &[Frac]) -> Result<Frac, Unfit>
+    requires in_range { reach expr.now ≤ length store.now }
+    requires divisors { IsTrue (form [] expr.now).affine }
+    ensures answer { result ≡ value_in store.now expr.now }
+    ensures worked { IfOk result (λ q. q ≡ (work store.now expr.now).value) }
+    ensures divisor { IfOk result (λ q. (form [] expr.now).divides ≡ true → q.num ≢ pos 0) }
+{
+    match expr {
+        Expr::Number(number) => Ok(*number),
+        Expr::Variable(variable) => Ok(store[*variable as usize]),
+        Expr::Neg(part) => {
+            let whole = evaluated(part.get(), store)?;
+            Ok(whole.neg())
+        }
+        Expr::Binary(op, left, right) => {
+            let first = evaluated(left.get(), store)?;
+            let second = evaluated(right.get(), store)?;
+            combined(*op, first, second)
+        }
+    }
+}
+
+/// What the sign makes of two values, of which the second isn't 0 where it divides.
+fn combined(op: Op, left: Frac, right: Frac) -> Result<Frac, Unfit>
+    requires { op ≡ Div → right.num ≢ pos 0 }
+    ensures answer { result ≡ if_fitting (fits (applied op left right)) (applied op left right) }
+    ensures exact { IfOk result (λ q. q ≡ applied op left right) }
+{
+    let exact = match op {
+        Op::Add => left.add(right),
+        Op::Sub => left.sub(right),
+        Op::Mul => left.mul(right),
+        Op::Div => left.div(right),
+    };
+    match exact {
+        Some(value) => Ok(value),
+        None => Err(Unfit),
+    }
+}
+
+/// The truth of a condition in this store, or `Unfit` exactly where the value of some part doesn't fit a fraction: it
+/// is evaluated whole. The store has all its variables, and its divisors are numbers other than 0.
+pub fn holds(cond: &Cond, store: &[Frac]) -> Result<bool, Unfit>
+    requires in_range { reach_in cond.now ≤ length store.now }
+    requires divisors { IsTrue (is_domain [] cond.now) }
+    ensures { result ≡ truth_in store.now cond.now }
+{
+    match cond {
+        Cond::True => Ok(true),
+        Cond::False => Ok(false),
+        Cond::Compare(how, left, right) => {
+            let first = value(left.get(), store)?;
+            let second = value(right.get(), store)?;
+            Ok(answered(*how, first.compare(second)))
+        }
+        Cond::Not(part) => {
+            let inner = holds(part.get(), store)?;
+            Ok(!inner)
+        }
+        Cond::And(left, right) => {
+            let first = holds(left.get(), store)?;
+            let second = holds(right.get(), store)?;
+            Ok(first & second)
+        }
+        Cond::Or(left, right) => {
+            let first = holds(left.get(), store)?;
+            let second = holds(right.get(), store)?;
+            Ok(first | second)
+        }
+    }
+}
+
+/// The answer of a comparison, by how its left side lies to its right side.
+fn answered(how: Comparison, side: Ordering) -> bool
+    ensures { result ≡ answer how side }
+{
+    match how {
+        Comparison::Less => side == Ordering::Less,
+        Comparison::AtMost => side != Ordering::Greater,
+        Comparison::Equal => side == Ordering::Equal,
+        Comparison::NotEqual => side != Ordering::Equal,
+        Comparison::AtLeast => side != Ordering::Less,
+        Comparison::Greater => side == Ordering::Greater,
+    }
+}
