@@ -5,8 +5,6 @@ mod expr;
 mod role;
 mod same;
 mod stmt;
-#[cfg(test)]
-mod tests;
 mod tree;
 mod whole;
 

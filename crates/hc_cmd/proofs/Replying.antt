@@ -13,25 +13,39 @@ use Rattle.hc_term.specs.Canonical.{canonical}
 use Rattle.hc_cmd.specs.declared.words.Request.{Request}
 use Rattle.hc_cmd.specs.declared.words.Request.TheVariants.{Simulate}
 use Rattle.hc_cmd.specs.declared.refusal.Refusal.{Refusal}
-use Rattle.hc_cmd.specs.declared.refusal.Refusal.TheVariants.{Usage, Unread, Memory, TooLong, NotBuilt}
+use Rattle.hc_cmd.specs.declared.refusal.Refusal.TheVariants.{Usage, Unread, Memory, TooLong, NotBuilt, Unparsed}
 use Rattle.hc_cmd.specs.declared.simulation.Simulation.{Simulation}
 use Rattle.hc_cmd.specs.Words.{request_of}
-use Rattle.hc_cmd.specs.Refusals.{refused, status_of}
-use Rattle.hc_cmd.specs.Replies.{Answers, small, not_small, status_at, simulated, Replies, usage, unread, no_memory, too_long, answered}
+use Rattle.hc_ast.specs.Counts.{name_too_long, number_unfit, syntax, too_deep, too_many_nodes}
+use Rattle.hc_parse.specs.declared.parsing.ParseStop.{ParseStop}
+use Rattle.hc_parse.specs.declared.parsing.ParseStop.TheVariants as stop
+use Rattle.hc_parse.specs.Stops.{IsStop}
+use Rattle.hc_cmd.specs.Refusals.{refused, status_of, status_of_stop}
+use Rattle.hc_cmd.specs.Replies.{Answers, small, not_small, unparsed, status_at, simulated, Replies, usage, unread, no_memory, too_long, answered}
 use Rattle.hc_cmd.specs.Complete.{IsReplyTo, IsComplete}
 use Rattle.hc_cmd.specs.Simulations.{reply_to, IsReady}
 
 pub one_request : (r : Request) → r ≡ Simulate
 one_request Simulate = refl
 
+-- what the stop of parsing gives
+pub unparsed_gives : (text : List ℕ) (s : ParseStop) → IsStop text s →
+    (refused (Unparsed s) ≡ refused Memory) ⊎ Answers text (refused (Unparsed s))
+unparsed_gives text (stop.NameTooLong p) is = inr (unparsed name_too_long p is refl)
+unparsed_gives text (stop.NumberUnfit p) is = inr (unparsed number_unfit p is refl)
+unparsed_gives text (stop.Syntax p) is = inr (unparsed syntax p is refl)
+unparsed_gives text (stop.TooDeep p) is = inr (unparsed too_deep p is refl)
+unparsed_gives text (stop.TooManyNodes p) is = inr (unparsed too_many_nodes p is refl)
+unparsed_gives text stop.Memory is = inl refl
+
 module _ {S : Type 0} (left : S → Option (List ℕ)) (faults : S → ℕ) (words : List (List ℕ)) (before after : S) where
   -- what the text gives, the source gives
   pub text_gives : (text : List ℕ) → request_of words ≡ Some Simulate → IsAll (left before) text → length text ≤ 1048576 →
       faults after ≡ faults before → (r : Result Simulation Refusal) →
-      MatchResult r (λ s. IsReady s × Answers text (reply_to s)) (λ f. (f ≡ Memory) ⊎ Answers text (refused f)) →
+      MatchResult r (λ s. IsReady s × Answers text (reply_to s)) (λ f. (refused f ≡ refused Memory) ⊎ Answers text (refused f)) →
       MatchResult r (λ s. IsReady s × Replies left faults words before after (reply_to s)) (λ f. Replies left faults words before after (refused f))
   text_gives text asked all fits kept (Ok s) h = (h.0, answered text asked all fits kept h.1)
-  text_gives text asked all fits kept (Err f) (inl e) = no_memory kept (ap refused e)
+  text_gives text asked all fits kept (Err f) (inl e) = no_memory kept e
   text_gives text asked all fits kept (Err f) (inr a) = answered text asked all fits kept a
 
   -- no reply has status 4
@@ -42,16 +56,27 @@ module _ {S : Type 0} (left : S → Option (List ℕ)) (faults : S → ℕ) (wor
   not_4_at Limit e = absurd (omega (arith, e))
   not_4_at (Overflow p) e = absurd (omega (arith, e))
 
+  stop_not_4 : (s : ParseStop) → status_of_stop s ≢ 4
+  stop_not_4 (stop.NameTooLong p) e = absurd (omega (arith, e))
+  stop_not_4 (stop.NumberUnfit p) e = absurd (omega (arith, e))
+  stop_not_4 (stop.Syntax p) e = absurd (omega (arith, e))
+  stop_not_4 (stop.TooDeep p) e = absurd (omega (arith, e))
+  stop_not_4 (stop.TooManyNodes p) e = absurd (omega (arith, e))
+  stop_not_4 stop.Memory e = absurd (omega (arith, e))
+
   refused_not_4 : (f : Refusal) → status_of f ≢ 4
   refused_not_4 Usage e = absurd (omega (arith, e))
   refused_not_4 Unread e = absurd (omega (arith, e))
   refused_not_4 Memory e = absurd (omega (arith, e))
   refused_not_4 TooLong e = absurd (omega (arith, e))
   refused_not_4 NotBuilt e = absurd (omega (arith, e))
+  refused_not_4 (Unparsed s) e = stop_not_4 s e
 
   answer_not_4 : (text : List ℕ) (reply : Reply) → Answers text reply → reply.status ≢ 4
-  answer_not_4 text reply (small task is_small parts e) h = not_4_at (canonical task).stop (sym (ap (λ (r : Reply). r.status) e) ∙ h)
-  answer_not_4 text reply (not_small none e) h = refused_not_4 NotBuilt (sym (ap (λ (r : Reply). r.status) e) ∙ h)
+  answer_not_4 text reply (small tree task is is_small parts e) h = not_4_at (canonical task).stop (sym (ap (λ (r : Reply). r.status) e) ∙ h)
+  answer_not_4 text reply (not_small tree is none e) h = refused_not_4 NotBuilt (sym (ap (λ (r : Reply). r.status) e) ∙ h)
+  answer_not_4 text reply (unparsed flaw place is e) h =
+      let one : 1 ≡ 4 = sym (ap (λ (r : Reply). r.status) e) ∙ h in absurd (omega (arith, one))
 
   pub reply_not_4 : (reply : Reply) → Replies left faults words before after reply → reply.status ≢ 4
   reply_not_4 reply (usage none same e) h = refused_not_4 Usage (sym (ap (λ (r : Reply). r.status) e) ∙ h)

@@ -1,8 +1,40 @@
 -- The status and the line of each refusal.
-use Rattle.std.specs.Prelude.{ℕ, List, [], ◌∷◌, ◌++◌, codes}
+use Rattle.std.specs.Prelude.{ℕ, List, [], ◌∷◌, ◌++◌, codes, decimal}
+use Rattle.hc_frac.specs.declared.place.Place.{Place}
+use Rattle.hc_ast.specs.Counts.{Flaw, name_too_long, number_unfit, syntax, too_deep, too_many_nodes}
+use Rattle.hc_parse.specs.declared.parsing.ParseStop as parse
+use Rattle.hc_parse.specs.declared.parsing.ParseStop.TheVariants as stop
 use Rattle.hc_reply.specs.Reply.{Reply}
 use Rattle.hc_cmd.specs.declared.refusal.Refusal.{Refusal}
-use Rattle.hc_cmd.specs.declared.refusal.Refusal.TheVariants.{Usage, Unread, Memory, TooLong, NotBuilt}
+use Rattle.hc_cmd.specs.declared.refusal.Refusal.TheVariants.{Usage, Unread, Memory, TooLong, NotBuilt, Unparsed}
+
+-- a message as a line
+abbrev pub line : List ℕ → List ℕ
+line message = codes "hcsp: " ++ message ++ 10 ∷ []
+
+-- a message about a place: the line and the column in decimal, with `:` behind each
+abbrev pub at_place : Place → List ℕ → List ℕ
+at_place p message = decimal p.line ++ 58 ∷ decimal p.column ++ 58 ∷ 32 ∷ message
+
+-- what is wrong with a text
+abbrev pub message_of_flaw : Flaw → List ℕ
+message_of_flaw name_too_long = codes "name longer than 64 bytes"
+message_of_flaw number_unfit = codes "number out of range"
+message_of_flaw syntax = codes "syntax"
+message_of_flaw too_deep = codes "nested too deeply"
+message_of_flaw too_many_nodes = codes "expression too long"
+
+abbrev pub status_of_stop : parse.ParseStop → ℕ
+status_of_stop stop.Memory = 5
+status_of_stop _ = 1
+
+abbrev pub message_of_stop : parse.ParseStop → List ℕ
+message_of_stop (stop.NameTooLong p) = at_place p (message_of_flaw name_too_long)
+message_of_stop (stop.NumberUnfit p) = at_place p (message_of_flaw number_unfit)
+message_of_stop (stop.Syntax p) = at_place p (message_of_flaw syntax)
+message_of_stop (stop.TooDeep p) = at_place p (message_of_flaw too_deep)
+message_of_stop (stop.TooManyNodes p) = at_place p (message_of_flaw too_many_nodes)
+message_of_stop stop.Memory = codes "out of memory"
 
 abbrev pub status_of : Refusal → ℕ
 status_of Usage = 2
@@ -10,6 +42,7 @@ status_of Unread = 3
 status_of Memory = 5
 status_of TooLong = 1
 status_of NotBuilt = 1
+status_of (Unparsed s) = status_of_stop s
 
 abbrev pub message_of : Refusal → List ℕ
 message_of Usage = codes "usage: hcsp ACTION"
@@ -17,11 +50,12 @@ message_of Unread = codes "read failed"
 message_of Memory = codes "out of memory"
 message_of TooLong = codes "source longer than 1048576 bytes"
 message_of NotBuilt = codes "not built"
-
--- the message as a line
-abbrev pub line_of : Refusal → List ℕ
-line_of refusal = codes "hcsp: " ++ message_of refusal ++ 10 ∷ []
+message_of (Unparsed s) = message_of_stop s
 
 -- nothing stands on output, and the line on error
 abbrev pub refused : Refusal → Reply
-refused refusal = record { status = status_of refusal; out = []; err = line_of refusal }
+refused refusal = record { status = status_of refusal; out = []; err = line (message_of refusal) }
+
+-- nothing stands on output, and on error what is wrong with the text, and where
+abbrev pub refused_at : Flaw → Place → Reply
+refused_at flaw place = record { status = 1; out = []; err = line (at_place place (message_of_flaw flaw)) }

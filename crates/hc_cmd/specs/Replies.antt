@@ -8,6 +8,10 @@ use Rattle.hc_term.specs.declared.task.Task.{Task}
 use Rattle.hc_term.specs.Given.{HasParts}
 use Rattle.hc_term.specs.Canonical.{canonical}
 use Rattle.hc_term.specs.TraceText as trace
+use Rattle.hc_frac.specs.declared.place.Place.{Place}
+use Rattle.hc_ast.specs.declared.tree.Tree.{Tree}
+use Rattle.hc_ast.specs.Counts.{Flaw}
+use Rattle.hc_ast.specs.Source.{IsSource, IsRefused}
 use Rattle.hc_small.specs.Numbered.{IsSmall}
 use Rattle.hc_world.specs.Counts.{Rose}
 use Rattle.hc_world.specs.Reading.{IsAll}
@@ -16,7 +20,7 @@ use Rattle.hc_cmd.specs.declared.words.Request.{Request}
 use Rattle.hc_cmd.specs.declared.words.Request.TheVariants.{Simulate}
 use Rattle.hc_cmd.specs.declared.refusal.Refusal.TheVariants.{Usage, Unread, Memory, TooLong, NotBuilt}
 use Rattle.hc_cmd.specs.Words.{request_of}
-use Rattle.hc_cmd.specs.Refusals.{refused}
+use Rattle.hc_cmd.specs.Refusals.{refused, refused_at}
 
 -- the status of a run by its stop
 abbrev pub status_at : Stop → ℕ
@@ -32,10 +36,13 @@ simulated t =
     let run = canonical t in
     record { status = status_at run.stop; out = trace.whole t.system run.items run.end.clock run.stop; err = [] }
 
--- a text is simulated with seed 0, horizon 100 and limit 10,000 where it is a small source, and else it isn't built
+-- a source in the small form is simulated with seed 0, horizon 100 and limit 10,000; another source isn't built;
+-- a text that is no source is refused where something is wrong first
 pub data Answers (text : List ℕ) (reply : Reply) : Type 0 where
-  small : (task : Task) → IsSmall text task.system → HasParts task.system 0 (whole (pos 100)) 10000 task → reply ≡ simulated task → Answers text reply
-  not_small : ((system : System) → IsSmall text system → ⊥) → reply ≡ refused NotBuilt → Answers text reply
+  small : (tree : Tree) (task : Task) → IsSource text tree → IsSmall tree task.system → HasParts task.system 0 (whole (pos 100)) 10000 task →
+      reply ≡ simulated task → Answers text reply
+  not_small : (tree : Tree) → IsSource text tree → ((system : System) → IsSmall tree system → ⊥) → reply ≡ refused NotBuilt → Answers text reply
+  unparsed : (flaw : Flaw) (place : Place) → IsRefused text flaw place → reply ≡ refused_at flaw place → Answers text reply
 
 -- what the words and the source give, where no write and no flush fails;
 -- `left` and `faults` are the source's own: the bytes that it tells, and its count of faults

@@ -31,7 +31,7 @@ fn reply_to<S: Source, O: Sink, E: Sink>(
             Ok(()) => simulation.status(),
             Err(_) => WRITE_FAILED,
         },
-        Err(refusal) => match tell(err, refusal.line()) {
+        Err(refusal) => match tell(err, refusal.line().as_str()) {
             Ok(()) => refusal.status(),
             Err(_) => WRITE_FAILED,
         },

@@ -13,8 +13,9 @@ use crate::refusal::Refusal;
 use crate::words::{Request, asked_for};
 use hc_frac::Frac;
 use hc_history::write_whole;
+use hc_parse::parse;
 use hc_plain::{CanonicalRun, canonical_run};
-use hc_small::{SmallStop, read_small};
+use hc_small::{SmallStop, small_system};
 use hc_term::{Stop, System, Task};
 use hc_world::{Failed, ReadStop, Sink, Source, read_all};
 use std::alloc::Global;
@@ -41,9 +42,13 @@ impl Simulation {
         requires { length text.now ≤ 1048576 }
         ensures { MatchResult result
             (λ s. IsReady s × Answers text.now (reply_to s))
-            (λ r. (r ≡ Refusal.Memory) ⊎ Answers text.now (refused r)) }
+            (λ r. (refused r ≡ refused Refusal.Memory) ⊎ Answers text.now (refused r)) }
     {
-        let system = match read_small(alloc, text) {
+        let tree = match parse(alloc, text) {
+            Ok(tree) => tree,
+            Err(stop) => return Err(Refusal::Unparsed(stop)),
+        };
+        let system = match small_system(alloc, &tree) {
             Ok(system) => system,
             Err(SmallStop::NotSmall) => return Err(Refusal::NotBuilt),
             Err(SmallStop::Memory) => return Err(Refusal::Memory),

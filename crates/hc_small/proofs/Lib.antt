@@ -1,7 +1,4 @@
-pub mod Signs
-pub mod OneWay
-pub mod Lists
+pub mod AllOf
 pub mod Noted
-pub mod SmallTexts
+pub mod SmallTrees
 pub mod Plain
-pub mod Maps

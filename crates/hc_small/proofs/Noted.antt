@@ -6,7 +6,6 @@ use Rattle.std.proofs.lemmas.List.{append-nil, drop_more}
 use Rattle.std.proofs.lemmas.List.Folds.{list_any-append}
 use Rattle.hc_small.specs.declared.text.StatementText.{StatementText}
 use Rattle.hc_small.specs.declared.text.ProcessText.{ProcessText}
-use Rattle.hc_small.specs.declared.text.SystemText.{SystemText}
 use Rattle.hc_small.specs.declared.names.Sort.TheVariants.{Channel}
 use Rattle.hc_small.specs.Names.{first_occurrences, names_in, channels_of}
 use Rattle.hc_small.specs.Noting.{with_name, noted}
@@ -171,12 +170,8 @@ with_next_process g names all ps i p h here so_far =
     let now = subst P (drop_more ps i p h ∙ ap (λ t. t ∷ drop (i + 1) ps) (sym here)) so_far in
     omega (arith, with_process g names p (drop (i + 1) ps), ap length now)
 
--- the channels of the first process, and then those of all others
-pub all_channels : (t : SystemText) (start names : List (List ℕ)) (more : List ProcessText)
-    → start ≡ [] → names ≡ noted start (names_in Channel t.first) → more ≡ t.more
-    → noted names (flat_map (names_in Channel) more) ≡ channels_of t
-all_channels t start names more empty first same =
-    let a = names_in Channel t.first in
-    let b = flat_map (names_in Channel) t.more in
-    ap₂ (λ n ps. noted n (flat_map (names_in Channel) ps)) (first ∙ ap (λ n. noted n a) empty) same
-    ∙ sym (noted-append [] a b) ∙ noted-first (a ++ b)
+-- the channels of all processes
+pub all_channels : (ps : List ProcessText) (names : List (List ℕ)) → names ≡ []
+    → noted names (flat_map (names_in Channel) ps) ≡ channels_of ps
+all_channels ps names empty =
+    ap (λ n. noted n (flat_map (names_in Channel) ps)) empty ∙ noted-first (flat_map (names_in Channel) ps)

@@ -10,7 +10,8 @@ use Rattle.hc_frac.specs.declared.decimal.Decimal.{Decimal}
 use Rattle.hc_small.specs.declared.text.StatementText.{StatementText}
 use Rattle.hc_small.specs.declared.text.StatementText.TheVariants.{Skip, Assign, Wait, Send, Receive}
 use Rattle.hc_small.specs.declared.text.ProcessText.{ProcessText}
-use Rattle.hc_small.specs.Names.{processes_of, channels_of, variables_of, statements_of}
+use Rattle.hc_ast.specs.declared.tree.Tree.{Tree}
+use Rattle.hc_small.specs.Names.{channels_of, variables_of}
 use Rattle.hc_small.specs.Numbered.{value_of, numbered, numbered_process, IsSmall}
 
 number : (n : Decimal) → is_number (value_of n) ≡ true
@@ -34,9 +35,8 @@ plain_processes cs [] = refl
 plain_processes cs (p ∷ ps) =
     and_from (are_plain (numbered_process cs p).body)
     (list_all (λ p. are_plain p.body) (map (numbered_process cs) ps))
-    (all_plain cs (variables_of p) (statements_of p)) (plain_processes cs ps)
+    (all_plain cs (variables_of p) p.body) (plain_processes cs ps)
 
-pub small_is_plain : (bytes : List ℕ) (s : System) → IsSmall bytes s → is_plain_system s ≡ true
-small_is_plain bytes s is =
-    ap (λ ps. list_all (λ p. are_plain p.body) ps) is.processes
-    ∙ plain_processes (channels_of is.text) (processes_of is.text)
+pub small_is_plain : (tree : Tree) (s : System) → IsSmall tree s → is_plain_system s ≡ true
+small_is_plain tree s is =
+    ap (λ ps. list_all (λ p. are_plain p.body) ps) is.processes ∙ plain_processes (channels_of is.texts) is.texts

@@ -1,8 +1,9 @@
--- What holds of all sources in the small form.
-use Rattle.std.specs.Prelude.{◌≡◌, ℕ, List}
+-- What holds of all trees in the small form.
+use Rattle.std.specs.Prelude.{◌≡◌}
+use Rattle.hc_ast.specs.declared.tree.Tree.{Tree}
 use Rattle.hc_term.specs.declared.system.System.{System}
 use Rattle.hc_small.specs.Numbered.{IsSmall}
 
--- bytes have at most one system
+-- a tree has at most one system
 abbrev pub OneSystem : Type 0
-OneSystem = (bytes : List ℕ) (s t : System) → IsSmall bytes s → IsSmall bytes t → s ≡ t
+OneSystem = (tree : Tree) (s t : System) → IsSmall tree s → IsSmall tree t → s ≡ t

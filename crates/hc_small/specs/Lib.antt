@@ -1,6 +1,4 @@
-pub mod Lexemes
-pub mod Texts
-pub mod Reading
+pub mod Trees
 pub mod Names
 pub mod Noting
 pub mod Numbered

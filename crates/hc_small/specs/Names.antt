@@ -5,7 +5,6 @@ use Rattle.std.specs.Cmp.Lexicographic.{pointwise}
 use Rattle.hc_small.specs.declared.text.StatementText.{StatementText}
 use Rattle.hc_small.specs.declared.text.StatementText.TheVariants.{Assign, Send, Receive}
 use Rattle.hc_small.specs.declared.text.ProcessText.{ProcessText}
-use Rattle.hc_small.specs.declared.text.SystemText.{SystemText}
 use Rattle.hc_small.specs.declared.names.Sort.{Sort}
 use Rattle.hc_small.specs.declared.names.Sort.TheVariants.{Channel, Variable}
 
@@ -26,21 +25,13 @@ name_in Variable (Assign x n) = Some x
 name_in Variable (Receive c x) = Some x
 name_in sort s = None
 
--- the statements of a process
-abbrev pub statements_of : ProcessText → List StatementText
-statements_of p = p.first ∷ p.more
-
--- the processes of a system
-abbrev pub processes_of : SystemText → List ProcessText
-processes_of t = t.first ∷ t.more
-
 -- the channels, or the variables, that a process names, from left to right
 abbrev pub names_in : Sort → ProcessText → List (List ℕ)
-names_in sort p = filter_map (name_in sort) (statements_of p)
+names_in sort p = filter_map (name_in sort) p.body
 
--- the channels of a system: its processes in order, each from left to right
-abbrev pub channels_of : SystemText → List (List ℕ)
-channels_of t = first_occurrences (flat_map (names_in Channel) (processes_of t))
+-- the channels of all processes in order, each from left to right
+abbrev pub channels_of : List ProcessText → List (List ℕ)
+channels_of ps = first_occurrences (flat_map (names_in Channel) ps)
 
 -- the variables of a process, from left to right
 abbrev pub variables_of : ProcessText → List (List ℕ)

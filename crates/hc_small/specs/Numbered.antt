@@ -1,5 +1,5 @@
--- The system of a text: its names numbered, its numbers as fractions.
-use Rattle.std.specs.Prelude.{◌≡◌, ℕ, ◌^◌, List, map}
+-- The system of a tree in the small form: its names numbered, its numbers as fractions.
+use Rattle.std.specs.Prelude.{◌≡◌, ℕ, ◌^◌, List, map, Some}
 use Rattle.hc_frac.specs.Words.{quotient}
 use Rattle.hc_frac.specs.declared.decimal.Decimal.{Decimal}
 use Rattle.hc_term.specs.declared.expr.Expr.{Expr}
@@ -9,14 +9,12 @@ use Rattle.hc_term.specs.declared.stmt.Stmt.{Stmt}
 use Rattle.hc_term.specs.declared.stmt.Stmt.TheVariants as a
 use Rattle.hc_term.specs.declared.system.Process.{Process}
 use Rattle.hc_term.specs.declared.system.System.{System}
-use Rattle.hc_token.specs.Tokens.{tokens_of}
+use Rattle.hc_ast.specs.declared.tree.Tree.{Tree}
 use Rattle.hc_small.specs.declared.text.StatementText.{StatementText}
 use Rattle.hc_small.specs.declared.text.StatementText.TheVariants.{Skip, Assign, Wait, Send, Receive}
 use Rattle.hc_small.specs.declared.text.ProcessText.{ProcessText}
-use Rattle.hc_small.specs.declared.text.SystemText.{SystemText}
-use Rattle.hc_small.specs.Lexemes.{lexemes}
-use Rattle.hc_small.specs.Texts.{whole}
-use Rattle.hc_small.specs.Names.{number_in, statements_of, processes_of, channels_of, variables_of}
+use Rattle.hc_small.specs.Trees.{processes_of}
+use Rattle.hc_small.specs.Names.{number_in, channels_of, variables_of}
 
 -- a number as an expression: its digits by ten to its places
 abbrev pub value_of : Decimal → Expr
@@ -36,16 +34,12 @@ abbrev pub numbered_process : List (List ℕ) → ProcessText → Process
 numbered_process channels p = record {
   name = p.name;
   variables = variables_of p;
-  body = map (numbered channels (variables_of p)) (statements_of p);
+  body = map (numbered channels (variables_of p)) p.body;
 }
 
--- the bytes' tokens are those of a text
-abbrev pub IsTextOf : List ℕ → SystemText → Type 0
-IsTextOf bytes t = lexemes (tokens_of bytes) ≡ whole t
-
--- the bytes are a source in the small form, and this is its system
-pub record IsSmall (bytes : List ℕ) (s : System) : Type 0 where
-  pub text : SystemText
-  pub spelled : IsTextOf bytes text
-  pub channels : s.channels ≡ channels_of text
-  pub processes : s.processes ≡ map (numbered_process (channels_of text)) (processes_of text)
+-- the tree is in the small form, and this is its system
+pub record IsSmall (t : Tree) (s : System) : Type 0 where
+  pub texts : List ProcessText
+  pub said : processes_of t ≡ Some texts
+  pub channels : s.channels ≡ channels_of texts
+  pub processes : s.processes ≡ map (numbered_process (channels_of texts)) texts

@@ -1,13 +1,13 @@
-//! The small form of a source: processes of assignments, waits, sends and receives of numbers.
+//! The small form of a source tree: processes of assignments, waits, sends and receives of numbers.
 #![tactic(auto)]
 
 mod names;
 mod numbering;
-mod reading;
 mod small;
 mod stop;
 mod text;
+mod trees;
 
-pub use small::{read_small, systems};
+pub use small::{small_system, systems};
 pub use stop::SmallStop;
-pub use text::{ProcessText, StatementText, SystemText};
+pub use text::{ProcessText, StatementText};

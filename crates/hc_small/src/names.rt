@@ -7,7 +7,7 @@ ghost use Rattle.hc_small.specs.Names as text;
 ghost use Rattle.hc_small.specs.Noting.{with_name, noted};
 
 use crate::stop::SmallStop;
-use crate::text::{ProcessText, StatementText, SystemText};
+use crate::text::{ProcessText, StatementText};
 use hc_frac::Name;
 use hc_list::List;
 use std::alloc::Global;
@@ -84,25 +84,6 @@ fn note_all(
     Ok(())
 }
 
-/// Notes those of a process.
-fn note_process(
-    names: &mut List<Name>,
-    sort: Sort,
-    process: &ProcessText,
-    most: usize,
-) -> Result<(), SmallStop>
-    requires { length names.old ≤ most }
-    ensures ok { OnOk result (names.new ≡ noted names.old (text.names_in sort process.now)) }
-    ensures few { OnOk result (length names.new ≤ most) }
-    ensures many { IsErrOf result SmallStop.NotSmall →
-        most < length (noted names.old (text.names_in sort process.now)) }
-{
-    if let Some(name) = name_in(sort, &process.first) {
-        note(names, name, most)?;
-    }
-    note_all(names, sort, process.more.as_slice(), most)
-}
-
 /// The variables of a process, of which there are at most 64.
 pub(crate) fn variables_of(alloc: Global, process: &ProcessText) -> Result<List<Name>, SmallStop>
     ensures ok { IfOk result (λ names. names ≡ text.variables_of process.now) }
@@ -110,20 +91,29 @@ pub(crate) fn variables_of(alloc: Global, process: &ProcessText) -> Result<List<
     ensures many { IsErrOf result SmallStop.NotSmall → 64 < length (text.variables_of process.now) }
 {
     let mut names = List::new(alloc);
-    note_process(&mut names, Sort::Variable, process, MOST_VARIABLES)?;
+    note_all(
+        &mut names,
+        Sort::Variable,
+        process.body.as_slice(),
+        MOST_VARIABLES,
+    )?;
     Ok(names)
 }
 
-/// The channels of a system, of which there are at most 256.
-pub(crate) fn channels_of(alloc: Global, system: &SystemText) -> Result<List<Name>, SmallStop>
-    ensures ok { IfOk result (λ names. names ≡ text.channels_of system.now) }
+/// The channels of all processes, of which there are at most 256.
+pub(crate) fn channels_of(alloc: Global, processes: &[ProcessText]) -> Result<List<Name>, SmallStop>
+    ensures ok { IfOk result (λ names. names ≡ text.channels_of processes.now) }
     ensures few { IfOk result (λ names. length names ≤ 256) }
-    ensures many { IsErrOf result SmallStop.NotSmall → 256 < length (text.channels_of system.now) }
+    ensures many { IsErrOf result SmallStop.NotSmall → 256 < length (text.channels_of processes.now) }
 {
     let mut names = List::new(alloc);
-    note_process(&mut names, Sort::Channel, &system.first, MOST_CHANNELS)?;
-    for process in system.more.as_slice() {
-        note_process(&mut names, Sort::Channel, process, MOST_CHANNELS)?;
+    for process in processes {
+        note_all(
+            &mut names,
+            Sort::Channel,
+            process.body.as_slice(),
+            MOST_CHANNELS,
+        )?;
     }
     Ok(names)
 }

@@ -7,7 +7,7 @@ ghost use Rattle.hc_small.specs.Numbered as spec;
 
 use crate::names::{number_in, variables_of};
 use crate::stop::SmallStop;
-use crate::text::{ProcessText, StatementText, SystemText};
+use crate::text::{ProcessText, StatementText};
 use hc_frac::{Decimal, Name};
 use hc_list::List;
 use hc_term::{Expr, Io, Process, Stmt};
@@ -48,16 +48,14 @@ fn numbered_body(
     alloc: Global,
     channels: &[Name],
     variables: &[Name],
-    process: &ProcessText,
+    statements: &[StatementText],
 ) -> Result<List<Stmt>, AllocError>
     requires channels { length channels.now ≤ 256 }
     requires variables { length variables.now ≤ 64 }
-    ensures { IfOk result (λ body.
-        body ≡ map (spec.numbered channels.now variables.now) (text.statements_of process.now)) }
+    ensures { IfOk result (λ body. body ≡ map (spec.numbered channels.now variables.now) statements.now) }
 {
     let mut body = List::new(alloc);
-    body.push(numbered(channels, variables, &process.first))?;
-    for statement in process.more.as_slice() {
+    for statement in statements {
         body.push(numbered(channels, variables, statement))?;
     }
     Ok(body)
@@ -73,7 +71,12 @@ fn numbered_process(
     ensures many { IsErrOf result SmallStop.NotSmall → 64 < length (text.variables_of process.now) }
 {
     let variables = variables_of(alloc, process)?;
-    let body = numbered_body(alloc, channels, variables.as_slice(), process)?;
+    let body = numbered_body(
+        alloc,
+        channels,
+        variables.as_slice(),
+        process.body.as_slice(),
+    )?;
     Ok(Process {
         name: process.name.copy(),
         variables,
@@ -81,22 +84,20 @@ fn numbered_process(
     })
 }
 
-/// The processes of a text over these channels; not small where one has more than 64 variables.
+/// The processes over these channels; not small where one has more than 64 variables.
 pub(crate) fn numbered_processes(
     alloc: Global,
     channels: &[Name],
-    system: &SystemText,
+    processes: &[ProcessText],
 ) -> Result<List<Process>, SmallStop>
     requires { length channels.now ≤ 256 }
-    ensures ok { IfOk result (λ ps.
-        ps ≡ map (spec.numbered_process channels.now) (text.processes_of system.now)) }
+    ensures ok { IfOk result (λ ps. ps ≡ map (spec.numbered_process channels.now) processes.now) }
     ensures many { IsErrOf result SmallStop.NotSmall →
-        list_any (λ p. nat_lt 64 (length (text.variables_of p))) (text.processes_of system.now) ≡ true }
+        list_any (λ p. nat_lt 64 (length (text.variables_of p))) processes.now ≡ true }
 {
-    let mut processes = List::new(alloc);
-    processes.push(numbered_process(alloc, channels, &system.first)?)?;
-    for process in system.more.as_slice() {
-        processes.push(numbered_process(alloc, channels, process)?)?;
+    let mut numbered = List::new(alloc);
+    for process in processes {
+        numbered.push(numbered_process(alloc, channels, process)?)?;
     }
-    Ok(processes)
+    Ok(numbered)
 }

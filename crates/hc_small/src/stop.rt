@@ -7,7 +7,7 @@ use std::alloc::AllocError;
 /// Why no system was read.
 #[derive(Clone, Copy, Debug, PartialEq, Eq)]
 pub enum SmallStop {
-    /// The text is not in the small form, or its system breaks a rule.
+    /// The tree is not in the small form, or its system breaks a rule.
     NotSmall,
     /// Memory ran out.
     Memory,

@@ -1,4 +1,4 @@
-//! The texts of the small form.
+//! What statements and processes of the small form say.
 
 use hc_frac::{Decimal, Name};
 use hc_list::List;
@@ -18,17 +18,9 @@ pub enum StatementText {
     Receive { channel: Name, variable: Name },
 }
 
-/// A process: its name, its first statement, and those that follow.
+/// A process: its name, and its statements.
 #[derive(Drop)]
 pub struct ProcessText {
     pub name: Name,
-    pub first: StatementText,
-    pub more: List<StatementText>,
-}
-
-/// A system: its first process, and those that follow.
-#[derive(Drop)]
-pub struct SystemText {
-    pub first: ProcessText,
-    pub more: List<ProcessText>,
+    pub body: List<StatementText>,
 }

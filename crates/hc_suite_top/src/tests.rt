@@ -1,7 +1,8 @@
 use hc_cmd::answer;
 use hc_frac::Frac;
+use hc_parse::parse;
 use hc_plain::canonical_run;
-use hc_small::read_small;
+use hc_small::small_system;
 use hc_term::{Stop, Task};
 use hc_world::{MemSink, MemSource};
 use std::alloc::Global;
@@ -113,21 +114,45 @@ fn small_sources_are_simulated(rt: HostRuntime) -> Result<(), Fail> {
 }
 
 #[test]
-fn other_texts_are_not_built(rt: HostRuntime) -> Result<(), Fail> {
+fn other_texts_are_refused(rt: HostRuntime) -> Result<(), Fail> {
     let rows = [
-        "system P = (log(1)) endsystem",
-        "",
-        "system P = (x := 9223372036854775808) endsystem",
-        "system P = (c!1) || Q = (c!1) endsystem",
-        "system P = (c!1; c?x) endsystem",
-        "system P = (skip) || P = (skip) endsystem",
+        ("system P = (log(1)) endsystem", "hcsp: not built\n"),
+        ("system P = (x := 1 + 1) endsystem", "hcsp: not built\n"),
+        (
+            "system P = (c!1) || Q = (c!1) endsystem",
+            "hcsp: not built\n",
+        ),
+        ("system P = (c!1; c?x) endsystem", "hcsp: not built\n"),
+        (
+            "system P = (skip) || P = (skip) endsystem",
+            "hcsp: not built\n",
+        ),
+        (
+            "module M(): begin skip end endmodule system P = (skip) endsystem",
+            "hcsp: not built\n",
+        ),
+        ("system P = (", "hcsp: 1:13: syntax\n"),
+        ("", "hcsp: 1:1: syntax\n"),
+        ("system\n P = ()", "hcsp: 2:7: syntax\n"),
+        (
+            "system P = (x := 9223372036854775808) endsystem",
+            "hcsp: 1:18: number out of range\n",
+        ),
+        (
+            "aaaaaaaaaaaaaaaaaaaaaaaaaaaaaaaaaaaaaaaaaaaaaaaaaaaaaaaaaaaaaaaaa",
+            "hcsp: 1:1: name longer than 64 bytes\n",
+        ),
+        (
+            "system P = (x := -----------------------------------------------------------------1",
+            "hcsp: 1:82: nested too deeply\n",
+        ),
     ];
-    let wanted = Wanted {
-        status: 1,
-        out: "",
-        err: "hcsp: not built\n",
-    };
-    for text in rows {
+    for (text, err) in rows {
+        let wanted = Wanted {
+            status: 1,
+            out: "",
+            err,
+        };
         expect_reply(&rt, rt.alloc(), text.as_bytes(), &NONE, &wanted)?;
     }
     Ok(())
@@ -135,15 +160,28 @@ fn other_texts_are_not_built(rt: HostRuntime) -> Result<(), Fail> {
 
 const MEETING: &str = "system P = (wait(1.5); c!2) || Q = (c?x) endsystem";
 
+/// The column at which a cut of it is refused: a word that is cut is a name, and half a sign no token.
+fn refused_column(cut: usize) -> usize {
+    match cut {
+        1..=5 => 1,
+        19 => 19,
+        29 => 29,
+        42..=49 => 42,
+        _ => cut.saturating_add(1),
+    }
+}
+
 #[test]
 fn each_cut_of_a_source_is_refused(rt: HostRuntime) -> Result<(), Fail> {
-    let wanted = Wanted {
-        status: 1,
-        out: "",
-        err: "hcsp: not built\n",
-    };
     let bytes = MEETING.as_bytes();
     for end in 0..bytes.len() {
+        let column = refused_column(end);
+        let err = format!(in rt.alloc(); "hcsp: 1:{column}: syntax\n")?;
+        let wanted = Wanted {
+            status: 1,
+            out: "",
+            err: err.as_str(),
+        };
         expect_reply(&rt, rt.alloc(), &bytes[..end], &NONE, &wanted)?;
     }
     Ok(())
@@ -215,7 +253,10 @@ fn stop_of(
     if bytes.len() > 1000 {
         return Ok(None);
     }
-    let Ok(system) = read_small(alloc, bytes) else {
+    let Ok(tree) = parse(alloc, bytes) else {
+        return Ok(None);
+    };
+    let Ok(system) = small_system(alloc, &tree) else {
         return Ok(None);
     };
     let Some(horizon) = Frac::new(horizon, 1) else {

@@ -1,4 +1,4 @@
-use Rattle.std.proofs.Common.{◌≡◌, refl, sym, subst, List, ℕ, []}
+use Rattle.std.proofs.Common.{◌≡◌, refl, sym, subst, ◌∙◌, List, ℕ, []}
 use Rattle.hc_reply.specs.Sinks.{IsWhole, IsCut, whole, out_failed, err_failed}
 use Rattle.hc_cmd.specs.Refusals.{refused}
 use Rattle.hc_cmd.specs.Simulations.{reply_to}
@@ -21,7 +21,7 @@ returns-in-Ok-tell g c = (
   refused c.in-Err.refusal,
   c.in-Err.ensures {u = tt},
   whole c.status-in-Ok-tell.ensures (untouched g.O.Sink.told g.O.Sink.faults c.args.out.now)
-      (subst (λ (text : List ℕ). IsWhole g.E.Sink.told g.E.Sink.faults c.args.err.now c.tell.new.err text) c.line.ensures (c.in-Ok-tell.ensures {u = tt})),
+      (subst (λ (text : List ℕ). IsWhole g.E.Sink.told g.E.Sink.faults c.args.err.now c.tell.new.err text) (c.as_str.ensures.value ∙ c.line.ensures) (c.in-Ok-tell.ensures {u = tt})),
 )
 
 pub returns : goal.returns
@@ -29,5 +29,5 @@ returns g c = (
   refused c.in-Err.refusal,
   c.in-Err.ensures {u = tt},
   err_failed refl (untouched g.O.Sink.told g.O.Sink.faults c.args.out.now)
-      (subst (λ (text : List ℕ). IsCut g.E.Sink.told g.E.Sink.faults c.args.err.now c.tell.new.err text) c.line.ensures (c.in-Err-tell.ensures {u = tt})),
+      (subst (λ (text : List ℕ). IsCut g.E.Sink.told g.E.Sink.faults c.args.err.now c.tell.new.err text) (c.as_str.ensures.value ∙ c.line.ensures) (c.in-Err-tell.ensures {u = tt})),
 )

@@ -7,6 +7,6 @@ use Rattle.hc_small.proofs.names.channels_of.Given as goal
 
 abbrev pub invariant-loop-process : goal.invariant-loop-process
 invariant-loop-process l =
-    (noted l.names (flat_map (names_in Channel) (drop l.process-index l.process-items))
-    ≡ noted l.initial.names (flat_map (names_in Channel) l.process-items))
+    (noted l.names (flat_map (names_in Channel) (drop l.process-index l.processes))
+    ≡ noted l.initial.names (flat_map (names_in Channel) l.processes))
     × (length l.names ≤ 256)

@@ -1,4 +1,4 @@
-use Rattle.hc_small.proofs.SmallTexts.{one_small}
+use Rattle.hc_small.proofs.SmallTrees.{one_small}
 use Rattle.hc_small.proofs.small.systems.Goals as goal
 
 pub returns : goal.returns

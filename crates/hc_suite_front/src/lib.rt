@@ -1,0 +1,9 @@
+//! Tests of what reads a source, over texts whose answers the language's own rules give.
+#![tactic(auto)]
+
+#[cfg(test)]
+mod limits;
+#[cfg(test)]
+mod reading;
+#[cfg(test)]
+mod refusals;
