@@ -2,10 +2,12 @@
 #![tactic(auto)]
 
 mod expr;
+mod laws;
 mod level;
 mod sign;
 mod stmt;
 mod tree;
 mod writer;
 
+pub use laws::reading_back;
 pub use tree::print;

@@ -5,7 +5,7 @@ ghost use Rattle.hc_ast.specs.Unplaced.{bare_expr, bare_param, bare_module, bare
 ghost use Rattle.hc_print.specs.Lexemes.{fixed};
 ghost use Rattle.hc_print.specs.Appends.{Writes};
 ghost use Rattle.hc_print.specs.Canonical as canon;
-ghost use Rattle.hc_print.specs.Readable.{IsOfSource};
+ghost use Rattle.hc_print.specs.Readable.{IsOfSource, ReadsBackAs};
 
 use crate::expr::write_expr;
 use crate::level::Level;
@@ -18,10 +18,12 @@ use std::alloc::{AllocError, Global};
 /// The canonical spelling of a tree that the grammar has.
 ///
 /// A newline stands behind each `begin`, `;`, `end`, `endmodule`, `system` and `endsystem`, and one
-/// space behind each other token; brackets stand only where the grammar needs them.
+/// space behind each other token; brackets stand only where the grammar needs them. What is written
+/// is a source again, with the same tree but for places.
 pub fn print(alloc: Global, tree: &Tree) -> Result<Vec<u8>, AllocError>
     requires { IsOfSource tree.now }
-    ensures { IfOk result (λ text. text.items ≡ canon.canonical tree.now) }
+    ensures canonical { IfOk result (λ text. text.items ≡ canon.canonical tree.now) }
+    ensures reads_back { IfOk result (λ text. ReadsBackAs text.items tree.now) }
 {
     let mut out = Writer {
         bytes: Vec::new(alloc),
