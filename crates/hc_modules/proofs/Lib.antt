@@ -1,0 +1,4 @@
+pub mod Rows
+pub mod Folds
+pub mod WrittenForms
+pub mod Induction

@@ -1,5 +1,5 @@
 -- What the parameters of a module stand for in a call.
-use Rattle.std.specs.Prelude.{Bool, true, false, ◌&&◌, nat_eq, List, find, Option, Some, None}
+use Rattle.std.specs.Prelude.{Bool, true, false, ◌&&◌, nat_eq, List, find, Option, Some, None, unwrap_or}
 use Rattle.std.specs.Cmp.Lexicographic.{pointwise}
 use Rattle.hc_ast.specs.declared.expr.ExprTree.{ExprTree, fold-ExprTree}
 use Rattle.hc_ast.specs.declared.expr.ExprKind.TheOpen.{ExprKind-F}
@@ -40,23 +40,22 @@ bare_layer (ExprKind-F.Binary op e f) = None
 abbrev pub bare_name : ExprTree → Option Word
 bare_name e = fold-ExprTree (Option Word) (Option Word) bare_layer (λ t. t.kind) e
 
--- the channel that an argument names; any other argument, and none, leaves x
-abbrev pub named_by : Word → Option (Param × ExprTree) → Word
-named_by x None = x
-named_by x (Some b) = or_itself (bare_name b.1)
-  where
-    or_itself : Option Word → Word
-    or_itself None = x
-    or_itself (Some y) = y
-
--- the channel that x is in a call
-abbrev pub channel_for : Bindings → Word → Word
-channel_for bs x = named_by x (find (λ b. is_channel_of x b.0) bs)
-
 abbrev pub argument_of : Option (Param × ExprTree) → Option ExprTree
 argument_of None = None
 argument_of (Some b) = Some b.1
 
--- the expression that stands for the variable x in a call, where it is a value parameter
+-- the arguments for a channel x and for a value x, where the module has such a parameter
+abbrev pub channel_argument : Bindings → Word → Option ExprTree
+channel_argument bs x = argument_of (find (λ b. is_channel_of x b.0) bs)
+
 abbrev pub value_for : Bindings → Word → Option ExprTree
 value_for bs x = argument_of (find (λ b. is_value_of x b.0) bs)
+
+-- the channel that an argument names; where none does, it is x itself
+abbrev pub named_by : Option ExprTree → Word → Word
+named_by None x = x
+named_by (Some a) x = unwrap_or (bare_name a) x
+
+-- the channel that x is in a call
+abbrev pub channel_for : Bindings → Word → Word
+channel_for bs x = named_by (channel_argument bs x) x

@@ -6,3 +6,5 @@ pub mod Outermost
 pub mod Finds
 pub mod Refusals
 pub mod Well
+pub mod Calls
+pub mod Found

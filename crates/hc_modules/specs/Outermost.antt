@@ -80,17 +80,20 @@ pub record Written : Type 0 where
   pub place : Place
   pub variable : Word
 
+abbrev pub written_at : Place → Word → Written
+written_at p x = record { place = p; variable = x }
+
 abbrev pub by_io : IoTree → Place → List Written
 by_io (io_of.Send channel value) p = []
-by_io (io_of.Receive channel target) p = record { place = p; variable = target } ∷ []
+by_io (io_of.Receive channel target) p = written_at p target ∷ []
 
 abbrev pub by_rate : RateTree → Written
-by_rate r = record { place = r.place; variable = r.variable }
+by_rate r = written_at r.place r.variable
 
 -- one level of a statement at a place
 abbrev pub written_layer : StmtKind-F (Place → List Written) (List Written) (List Written) → Place → List Written
 written_layer StmtKind-F.Skip p = []
-written_layer (StmtKind-F.Assign target value) p = record { place = p; variable = target } ∷ []
+written_layer (StmtKind-F.Assign target value) p = written_at p target ∷ []
 written_layer (StmtKind-F.Wait time) p = []
 written_layer (StmtKind-F.Io x) p = by_io x p
 written_layer (StmtKind-F.Log value) p = []

@@ -4,14 +4,14 @@ use Rattle.hc_frac.specs.declared.place.Place.{Place}
 use Rattle.hc_ast.specs.declared.expr.ExprKind.TheOpen.{ExprKind-F}
 use Rattle.hc_ast.specs.declared.expr.ExprKind.TheVariants as e
 use Rattle.hc_ast.specs.declared.expr.ExprTree.{ExprTree, fold-ExprTree}
-use Rattle.hc_ast.specs.declared.expr.CondKind.{CondKind}
+use Rattle.hc_ast.specs.declared.expr.CondKind.{CondKind, fold-CondKind}
 use Rattle.hc_ast.specs.declared.expr.CondKind.TheOpen.{CondKind-F}
 use Rattle.hc_ast.specs.declared.expr.CondKind.TheVariants as c
 use Rattle.hc_ast.specs.declared.expr.CondTree.{CondTree, fold-CondTree}
 use Rattle.hc_ast.specs.declared.stmt.IoTree.{IoTree}
 use Rattle.hc_ast.specs.declared.stmt.IoTree.TheVariants as io_of
 use Rattle.hc_ast.specs.declared.stmt.RateTree.{RateTree}
-use Rattle.hc_ast.specs.declared.stmt.StmtKind.{StmtKind}
+use Rattle.hc_ast.specs.declared.stmt.StmtKind.{StmtKind, fold-StmtKind}
 use Rattle.hc_ast.specs.declared.stmt.StmtKind.TheOpen.{StmtKind-F, BranchTree-F}
 use Rattle.hc_ast.specs.declared.stmt.StmtKind.TheVariants as s
 use Rattle.hc_ast.specs.declared.stmt.StmtTree.{StmtTree, fold-StmtTree}
@@ -49,6 +49,9 @@ cond_layer bs (CondKind-F.Or x y) = c.Or x y
 abbrev pub cond_in : Bindings → CondTree → CondTree
 cond_in bs x = fold-CondTree CondKind CondTree (cond_layer bs) (λ t. cond_at t.place t.kind) x
 
+abbrev pub cond_kind_in : Bindings → CondKind → CondKind
+cond_kind_in bs x = fold-CondKind CondKind CondTree (cond_layer bs) (λ t. cond_at t.place t.kind) x
+
 -- channels and variables are two name spaces, and a variable that is received stays
 abbrev pub io_in : Bindings → IoTree → IoTree
 io_in bs (io_of.Send channel value) = io_of.Send (channel_for bs channel) (expr_in bs value)
@@ -79,6 +82,10 @@ branch_layer bs b = branch_at b.place (io_in bs b.io) b.body
 abbrev pub stmt_in : Bindings → StmtTree → StmtTree
 stmt_in bs x =
     fold-StmtTree StmtKind BranchTree StmtTree (stmt_layer bs) (branch_layer bs) (λ t. stmt_at t.place t.kind) x
+
+abbrev pub stmt_kind_in : Bindings → StmtKind → StmtKind
+stmt_kind_in bs x =
+    fold-StmtKind StmtKind BranchTree StmtTree (stmt_layer bs) (branch_layer bs) (λ t. stmt_at t.place t.kind) x
 
 abbrev pub branch_in : Bindings → BranchTree → BranchTree
 branch_in bs x =
