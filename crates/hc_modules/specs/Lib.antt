@@ -8,3 +8,4 @@ pub mod Refusals
 pub mod Well
 pub mod Calls
 pub mod Found
+pub mod Counted

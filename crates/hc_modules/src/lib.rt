@@ -2,7 +2,9 @@
 #![tactic(auto)]
 
 mod call;
+mod counts;
 mod flat;
+mod nodes;
 mod replaced;
 mod written;
 
