@@ -15,19 +15,35 @@ use Rattle.hc_modules.specs.Finds as finds
 abbrev pub HasText : Tree → Type 0
 HasText t = (ts : List Token) × IsTreeOf ts t
 
--- all that is found, phase after phase, and in each phase in the order of the text
-abbrev pub refusals : Tree → List ModuleStop
-refusals t =
+-- what is found, phase after phase, and in each phase in the order of the text: of modules,
+abbrev pub module_refusals : Tree → List ModuleStop
+module_refusals t =
     map stop.RepeatedModule (finds.repeated_modules t.modules)
     ++ map stop.RepeatedParameter (finds.repeated_parameters t.modules)
     ++ map stop.ParameterWritten (finds.parameters_written t.modules)
-    ++ map stop.TooManyProcesses (finds.processes_too_many t.processes)
+
+-- of processes,
+abbrev pub process_refusals : Tree → List ModuleStop
+process_refusals t =
+    map stop.TooManyProcesses (finds.processes_too_many t.processes)
     ++ map stop.RepeatedProcess (finds.repeated_processes t.processes)
-    ++ map stop.UnknownModule (finds.unknown_modules t.modules t.processes)
+
+-- of calls,
+abbrev pub call_refusals : Tree → List ModuleStop
+call_refusals t =
+    map stop.UnknownModule (finds.unknown_modules t.modules t.processes)
     ++ map stop.WrongArgumentCount (finds.arguments_miscounted t.modules t.processes)
     ++ map stop.WrongArgumentKind (finds.arguments_misfit t.modules t.processes)
-    ++ map stop.TooManyStatements (finds.statements_too_many (expansion t))
+
+-- of sizes after expansion,
+abbrev pub size_refusals : Tree → List ModuleStop
+size_refusals t =
+    map stop.TooManyStatements (finds.statements_too_many (expansion t))
     ++ map stop.TooManyNodes (finds.nodes_too_many (all_outermost (expansion t)))
+
+-- and all of it
+abbrev pub refusals : Tree → List ModuleStop
+refusals t = module_refusals t ++ process_refusals t ++ call_refusals t ++ size_refusals t
 
 -- the tree is refused: the first phase that finds something finds this first
 abbrev pub IsRefused : Tree → ModuleStop → Type 0
