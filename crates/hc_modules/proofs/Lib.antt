@@ -1,0 +1,15 @@
+pub mod Rows
+pub mod Folds
+pub mod Along
+pub mod StatementCount
+pub mod NodesBeyond
+pub mod Full
+pub mod FullTrees
+pub mod Nothing
+pub mod Judged
+pub mod WrittenForms
+pub mod Induction
+pub mod InForms
+pub mod Unbound
+pub mod Shapes
+pub mod OutermostForms

@@ -1,0 +1,17 @@
+use Rattle.std.proofs.Common.{sym, ◌∙◌}
+use Rattle.std.specs.List.{list_any}
+use Rattle.hc_modules.specs.Bindings.{same_word}
+use Rattle.hc_modules.proofs.Along.{found_at, passed_at}
+use Rattle.hc_modules.proofs.names.no_repeated_process.Goals as goal
+
+pub returns-then-is_process : goal.returns-then-is_process
+returns-then-is_process c =
+    found_at (λ before x. list_any (λ y. same_word y.name x.name) before) (λ x. x.place) c.args.processes.now c.loop-at.at c.index-processes-at.result
+      c.loop-at-test.true c.index-processes-at.is c.is_process.result c.is_process.ensures c.if-is_process.true
+    ∙ sym c.loop-at.invariant
+
+pub loop-at-preserved : goal.loop-at-preserved
+loop-at-preserved c =
+    c.loop-at.invariant
+    ∙ passed_at (λ before x. list_any (λ y. same_word y.name x.name) before) (λ x. x.place) c.args.processes.now c.loop-at.at c.index-processes-at.result
+      c.loop-at-test.true c.index-processes-at.is c.is_process.result c.is_process.ensures c.if-is_process.false

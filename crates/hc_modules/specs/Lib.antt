@@ -1,0 +1,11 @@
+pub mod Bindings
+pub mod Replaced
+pub mod Expansion
+pub mod Sizes
+pub mod Outermost
+pub mod Finds
+pub mod Refusals
+pub mod Well
+pub mod Calls
+pub mod Found
+pub mod Counted

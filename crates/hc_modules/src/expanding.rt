@@ -1,0 +1,160 @@
+//! Expansion.
+
+ghost use Rattle.std.specs.Prelude.{◌≡◌, map, IfOk, IfErr};
+ghost use Rattle.hc_ast.specs.declared.tree.Tree.{Tree as Said};
+ghost use Rattle.hc_modules.specs.declared.flat.Flat.{Flat as Expanded};
+ghost use Rattle.hc_modules.specs.declared.flat.ModuleStop.{ModuleStop as Stop};
+ghost use Rattle.hc_modules.specs.Expansion as spec;
+ghost use Rattle.hc_modules.specs.Found.{judged};
+ghost use Rattle.hc_modules.specs.Refusals.{HasText, IsExpansion, IsRefused, IsStop, IsFlatOrMemory, IsStopOrMemory, module_refusals, process_refusals, call_refusals, size_refusals, refusals};
+ghost use Rattle.hc_modules.specs.Sizes.{all_statements};
+
+use crate::arguments::{no_argument_miscounted, no_argument_misfit, no_unknown_module};
+use crate::flat::{Flat, FlatProcess, ModuleStop};
+use crate::names::{
+    no_process_too_many, no_repeated_module, no_repeated_parameter, no_repeated_process,
+};
+use crate::replaced::statements_in;
+use crate::sizes::{count_statements, no_node_too_many, work_of};
+use crate::written::no_parameter_written;
+use hc_ast::{ModuleDef, ProcessDef, Tree};
+use hc_list::List;
+use std::alloc::{AllocError, Global};
+
+/// Whether modules and their parameters have names of their own, and no module writes a value parameter.
+fn check_modules(tree: &Tree) -> Result<(), ModuleStop>
+    ensures { result ≡ judged (module_refusals tree.now) tt }
+{
+    let modules = tree.modules.as_slice();
+    if let Err(place) = no_repeated_module(modules) {
+        return Err(ModuleStop::RepeatedModule { place });
+    }
+    if let Err(place) = no_repeated_parameter(modules) {
+        return Err(ModuleStop::RepeatedParameter { place });
+    }
+    if let Err(place) = no_parameter_written(modules) {
+        return Err(ModuleStop::ParameterWritten { place });
+    }
+    Ok(())
+}
+
+/// Whether there are at most 64 processes, with names of their own.
+fn check_processes(tree: &Tree) -> Result<(), ModuleStop>
+    ensures { result ≡ judged (process_refusals tree.now) tt }
+{
+    let processes = tree.processes.as_slice();
+    if let Err(place) = no_process_too_many(processes) {
+        return Err(ModuleStop::TooManyProcesses { place });
+    }
+    if let Err(place) = no_repeated_process(processes) {
+        return Err(ModuleStop::RepeatedProcess { place });
+    }
+    Ok(())
+}
+
+/// Whether calls fit the modules that they name.
+fn check_calls(tree: &Tree) -> Result<(), ModuleStop>
+    ensures { result ≡ judged (call_refusals tree.now) tt }
+{
+    let modules = tree.modules.as_slice();
+    let processes = tree.processes.as_slice();
+    if let Err(place) = no_unknown_module(modules, processes) {
+        return Err(ModuleStop::UnknownModule { place });
+    }
+    if let Err(place) = no_argument_miscounted(modules, processes) {
+        return Err(ModuleStop::WrongArgumentCount { place });
+    }
+    if let Err(place) = no_argument_misfit(modules, processes) {
+        return Err(ModuleStop::WrongArgumentKind { place });
+    }
+    Ok(())
+}
+
+/// How many statements there are after expansion, where they and the nodes of their expressions are few enough.
+fn check_sizes(tree: &Tree) -> Result<u32, ModuleStop>
+    ensures { result ≡ judged (size_refusals tree.now) (all_statements (spec.expansion tree.now)) }
+{
+    let modules = tree.modules.as_slice();
+    let processes = tree.processes.as_slice();
+    let statements = match count_statements(modules, processes) {
+        Ok(statements) => statements,
+        Err(place) => return Err(ModuleStop::TooManyStatements { place }),
+    };
+    if let Err(place) = no_node_too_many(modules, processes) {
+        return Err(ModuleStop::TooManyNodes { place });
+    }
+    Ok(statements)
+}
+
+/// How many statements there are after expansion, or the first refusal.
+fn check(tree: &Tree) -> Result<u32, ModuleStop>
+    ensures { result ≡ judged (refusals tree.now) (all_statements (spec.expansion tree.now)) }
+{
+    if let Err(stop) = check_modules(tree) {
+        return Err(stop);
+    }
+    if let Err(stop) = check_processes(tree) {
+        return Err(stop);
+    }
+    if let Err(stop) = check_calls(tree) {
+        return Err(stop);
+    }
+    check_sizes(tree)
+}
+
+/// A process by itself.
+fn flat_process(
+    alloc: Global,
+    modules: &[ModuleDef],
+    process: &ProcessDef,
+) -> Result<FlatProcess, AllocError>
+    ensures { IfOk result (λ found. found ≡ spec.flat_process modules.now process.now) }
+{
+    let work = work_of(modules, &process.body);
+    let body = statements_in(alloc, &work.call, work.statements)?;
+    Ok(FlatProcess {
+        place: process.place,
+        name: process.name.copy(),
+        body,
+    })
+}
+
+fn flat_processes(
+    alloc: Global,
+    modules: &[ModuleDef],
+    processes: &[ProcessDef],
+) -> Result<List<FlatProcess>, AllocError>
+    ensures { IfOk result (λ found. found ≡ map (spec.flat_process modules.now) processes.now) }
+{
+    let mut found = List::new(alloc);
+    for process in processes {
+        found.push(flat_process(alloc, modules, process)?)?;
+    }
+    Ok(found)
+}
+
+/// The processes of a tree that the grammar has, each by itself, or the first refusal: of the first phase that finds
+/// something, what it finds first in the text.
+pub fn expand(alloc: Global, tree: &Tree) -> Result<Flat, ModuleStop>
+    requires { HasText tree.now }
+
+    // An answer is right.
+    ensures expansion { IfOk result (IsExpansion tree.now) }
+    ensures refusal { IfErr result (IsStop tree.now) }
+
+    // And what is right is the answer, unless memory runs out.
+    ensures every_expansion { (flat : Expanded) → IsExpansion tree.now flat → IsFlatOrMemory flat result }
+    ensures every_refusal { (stop : Stop) → IsRefused tree.now stop → IsStopOrMemory stop result }
+{
+    let statements = match check(tree) {
+        Ok(statements) => statements,
+        Err(stop) => return Err(stop),
+    };
+    match flat_processes(alloc, tree.modules.as_slice(), tree.processes.as_slice()) {
+        Ok(processes) => Ok(Flat {
+            processes,
+            statements,
+        }),
+        Err(_) => Err(ModuleStop::Memory),
+    }
+}
