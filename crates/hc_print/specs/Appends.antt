@@ -1,12 +1,13 @@
--- What is appended to a text.
+-- What a writer has written more.
 use Rattle.std.specs.Prelude.{◌≡◌, ℕ, List, ◌++◌}
+use Rattle.hc_print.specs.declared.writer.Writer.{Writer}
 use Rattle.hc_print.specs.Lexemes.{Lexemes}
 use Rattle.hc_print.specs.Written.{written}
 
 -- behind the old bytes stand those that `f` puts in front of what follows, and no others
-abbrev pub Appends : List ℕ → List ℕ → (List ℕ → List ℕ) → Type 0
-Appends old new f = (z : List ℕ) → new ++ z ≡ old ++ f z
+abbrev pub Appends : Writer → Writer → (List ℕ → List ℕ) → Type 0
+Appends old new f = (z : List ℕ) → new.bytes.items ++ z ≡ old.bytes.items ++ f z
 
 -- behind the old bytes stand the tokens that `f` puts in front of what follows, and no others
-abbrev pub Writes : List ℕ → List ℕ → (Lexemes → Lexemes) → Type 0
-Writes old new f = (w : Lexemes) → new ++ written w ≡ old ++ written (f w)
+abbrev pub Writes : Writer → Writer → (Lexemes → Lexemes) → Type 0
+Writes old new f = (w : Lexemes) → new.bytes.items ++ written w ≡ old.bytes.items ++ written (f w)

@@ -15,7 +15,7 @@ use std::alloc::{AllocError, Global};
 /// An expression, in round brackets where it needs them.
 #[tactic(auto, using(crate::proofs::Forms::forms))]
 pub(crate) fn write_expr(out: &mut Writer, tree: &ExprTree, level: Level) -> Result<(), AllocError>
-    ensures { OnOk result (Writes out.old.bytes.items out.new.bytes.items (canon.expr (bare_expr tree.now) level)) }
+    ensures { OnOk result (Writes out.old out.new (canon.expr (bare_expr tree.now) level)) }
 {
     match &tree.kind {
         ExprKind::Number(number) => out.number(*number),
@@ -38,7 +38,7 @@ pub(crate) fn write_expr(out: &mut Writer, tree: &ExprTree, level: Level) -> Res
 /// A condition, in square brackets where it needs them.
 #[tactic(auto, using(crate::proofs::Forms::forms))]
 pub(crate) fn write_cond(out: &mut Writer, tree: &CondTree, level: Level) -> Result<(), AllocError>
-    ensures { OnOk result (Writes out.old.bytes.items out.new.bytes.items (canon.cond (bare_cond tree.now) level)) }
+    ensures { OnOk result (Writes out.old out.new (canon.cond (bare_cond tree.now) level)) }
 {
     match &tree.kind {
         CondKind::True => out.sign(Kind::True),

@@ -15,7 +15,7 @@ use hc_token::Kind;
 use std::alloc::{AllocError, Global};
 
 fn write_io(out: &mut Writer, io: &IoTree) -> Result<(), AllocError>
-    ensures { OnOk result (Writes out.old.bytes.items out.new.bytes.items (canon.io (bare_io io.now))) }
+    ensures { OnOk result (Writes out.old out.new (canon.io (bare_io io.now))) }
 {
     match io {
         IoTree::Send { channel, value } => {
@@ -32,7 +32,7 @@ fn write_io(out: &mut Writer, io: &IoTree) -> Result<(), AllocError>
 }
 
 fn write_rate(out: &mut Writer, rate: &RateTree) -> Result<(), AllocError>
-    ensures { OnOk result (Writes out.old.bytes.items out.new.bytes.items (canon.rate (bare_rate rate.now))) }
+    ensures { OnOk result (Writes out.old out.new (canon.rate (bare_rate rate.now))) }
 {
     out.rate(&rate.variable)?;
     out.sign(Kind::Equal)?;
@@ -40,7 +40,7 @@ fn write_rate(out: &mut Writer, rate: &RateTree) -> Result<(), AllocError>
 }
 
 fn write_rates(out: &mut Writer, rates: &[RateTree]) -> Result<(), AllocError>
-    ensures { OnOk result (Writes out.old.bytes.items out.new.bytes.items (canon.rates (map bare_rate rates.now))) }
+    ensures { OnOk result (Writes out.old out.new (canon.rates (map bare_rate rates.now))) }
 {
     let [first, more @ ..] = rates else {
         return Ok(());
@@ -57,7 +57,7 @@ fn write_rates(out: &mut Writer, rates: &[RateTree]) -> Result<(), AllocError>
 #[cycle(write_stmts)]
 #[tactic(auto, using(hc_ast::proofs::BareForms::forms))]
 fn write_stmt(out: &mut Writer, statement: &StmtTree) -> Result<(), AllocError>
-    ensures { OnOk result (Writes out.old.bytes.items out.new.bytes.items (canon.stmt (bare_stmt statement.now))) }
+    ensures { OnOk result (Writes out.old out.new (canon.stmt (bare_stmt statement.now))) }
 {
     match &statement.kind {
         StmtKind::Skip => out.sign(Kind::Skip),
@@ -108,7 +108,7 @@ fn write_stmt(out: &mut Writer, statement: &StmtTree) -> Result<(), AllocError>
 
 /// A loop's test.
 fn write_test(out: &mut Writer, test: &CondTree) -> Result<(), AllocError>
-    ensures { OnOk result (Writes out.old.bytes.items out.new.bytes.items (λ w.
+    ensures { OnOk result (Writes out.old out.new (λ w.
         fixed Kind.OpenCurly ∷ cond (bare_cond test.now) Level.Alone (fixed Kind.CloseCurly ∷ fixed Kind.StarStar ∷ w))) }
 {
     out.sign(Kind::OpenCurly)?;
@@ -119,7 +119,7 @@ fn write_test(out: &mut Writer, test: &CondTree) -> Result<(), AllocError>
 
 /// An evolution's rates and its domain.
 fn write_motion(out: &mut Writer, rates: &[RateTree], domain: &CondTree) -> Result<(), AllocError>
-    ensures { OnOk result (Writes out.old.bytes.items out.new.bytes.items (λ w.
+    ensures { OnOk result (Writes out.old out.new (λ w.
         fixed Kind.Less ∷ canon.rates (map bare_rate rates.now)
         (fixed Kind.And ∷ cond (bare_cond domain.now) Level.Alone (fixed Kind.Greater ∷ w)))) }
 {
@@ -132,7 +132,7 @@ fn write_motion(out: &mut Writer, rates: &[RateTree], domain: &CondTree) -> Resu
 
 /// A test before the statements where it holds.
 fn write_if(out: &mut Writer, test: &CondTree) -> Result<(), AllocError>
-    ensures { OnOk result (Writes out.old.bytes.items out.new.bytes.items (λ w.
+    ensures { OnOk result (Writes out.old out.new (λ w.
         fixed Kind.If ∷ cond (bare_cond test.now) Level.Alone (fixed Kind.Then ∷ w))) }
 {
     out.sign(Kind::If)?;
@@ -142,7 +142,7 @@ fn write_if(out: &mut Writer, test: &CondTree) -> Result<(), AllocError>
 
 /// A word and one expression in round brackets.
 fn write_call(out: &mut Writer, word: Kind, value: &ExprTree) -> Result<(), AllocError>
-    ensures { OnOk result (Writes out.old.bytes.items out.new.bytes.items (λ w.
+    ensures { OnOk result (Writes out.old out.new (λ w.
         fixed word ∷ fixed Kind.OpenRound ∷ expr (bare_expr value.now) Level.Alone (fixed Kind.CloseRound ∷ w))) }
 {
     out.sign(word)?;
@@ -155,7 +155,7 @@ fn write_call(out: &mut Writer, word: Kind, value: &ExprTree) -> Result<(), Allo
 #[cycle(write_stmts)]
 #[tactic(auto, using(hc_ast::proofs::BareForms::forms))]
 pub(crate) fn write_stmts(out: &mut Writer, statements: &[StmtTree]) -> Result<(), AllocError>
-    ensures { OnOk result (Writes out.old.bytes.items out.new.bytes.items (canon.stmts (bare_stmts statements.now))) }
+    ensures { OnOk result (Writes out.old out.new (canon.stmts (bare_stmts statements.now))) }
 {
     let [first, more @ ..] = statements else {
         return Ok(());
@@ -172,7 +172,7 @@ pub(crate) fn write_stmts(out: &mut Writer, statements: &[StmtTree]) -> Result<(
 #[cycle(write_stmts)]
 #[tactic(auto, using(hc_ast::proofs::BareForms::forms))]
 fn write_group(out: &mut Writer, statements: &[StmtTree]) -> Result<(), AllocError>
-    ensures { OnOk result (Writes out.old.bytes.items out.new.bytes.items (λ w.
+    ensures { OnOk result (Writes out.old out.new (λ w.
         fixed Kind.OpenRound ∷ canon.stmts (bare_stmts statements.now) (fixed Kind.CloseRound ∷ w))) }
 {
     out.sign(Kind::OpenRound)?;
@@ -184,7 +184,7 @@ fn write_group(out: &mut Writer, statements: &[StmtTree]) -> Result<(), AllocErr
 #[cycle(write_stmts)]
 #[tactic(auto, using(hc_ast::proofs::BareForms::forms))]
 fn write_choice(out: &mut Writer, branches: &[BranchTree]) -> Result<(), AllocError>
-    ensures { OnOk result (Writes out.old.bytes.items out.new.bytes.items (λ w.
+    ensures { OnOk result (Writes out.old out.new (λ w.
         fixed Kind.EmptySquare ∷ fixed Kind.OpenRound
         ∷ canon.branches (bare_branches branches.now) (fixed Kind.CloseRound ∷ w))) }
 {
@@ -198,7 +198,7 @@ fn write_choice(out: &mut Writer, branches: &[BranchTree]) -> Result<(), AllocEr
 #[cycle(write_stmts)]
 #[tactic(auto, using(hc_ast::proofs::BareForms::forms))]
 fn write_interrupt(out: &mut Writer, branches: &[BranchTree]) -> Result<(), AllocError>
-    ensures { OnOk result (Writes out.old.bytes.items out.new.bytes.items (canon.interrupt (bare_branches branches.now))) }
+    ensures { OnOk result (Writes out.old out.new (canon.interrupt (bare_branches branches.now))) }
 {
     if branches.is_empty() {
         return Ok(());
@@ -211,7 +211,7 @@ fn write_interrupt(out: &mut Writer, branches: &[BranchTree]) -> Result<(), Allo
 #[cycle(write_stmts)]
 #[tactic(auto, using(hc_ast::proofs::BareForms::forms))]
 fn write_branches(out: &mut Writer, branches: &[BranchTree]) -> Result<(), AllocError>
-    ensures { OnOk result (Writes out.old.bytes.items out.new.bytes.items (canon.branches (bare_branches branches.now))) }
+    ensures { OnOk result (Writes out.old out.new (canon.branches (bare_branches branches.now))) }
 {
     let [first, more @ ..] = branches else {
         return Ok(());
@@ -227,7 +227,7 @@ fn write_branches(out: &mut Writer, branches: &[BranchTree]) -> Result<(), Alloc
 #[cycle(write_stmts)]
 #[tactic(auto, using(hc_ast::proofs::BareForms::forms))]
 fn write_branch(out: &mut Writer, branch: &BranchTree) -> Result<(), AllocError>
-    ensures { OnOk result (Writes out.old.bytes.items out.new.bytes.items (λ w.
+    ensures { OnOk result (Writes out.old out.new (λ w.
         canon.io (bare_branch branch.now).0 (fixed Kind.Arrow ∷ canon.stmts (bare_branch branch.now).1 w))) }
 {
     write_io(out, &branch.io)?;

@@ -34,7 +34,7 @@ pub fn print(alloc: Global, tree: &Tree) -> Result<Vec<u8>, AllocError>
 }
 
 fn write_system(out: &mut Writer, processes: &[ProcessDef]) -> Result<(), AllocError>
-    ensures { OnOk result (Writes out.old.bytes.items out.new.bytes.items (λ w.
+    ensures { OnOk result (Writes out.old out.new (λ w.
         fixed Kind.System ∷ canon.processes (map bare_process processes.now) (fixed Kind.EndSystem ∷ w))) }
 {
     out.sign(Kind::System)?;
@@ -43,7 +43,7 @@ fn write_system(out: &mut Writer, processes: &[ProcessDef]) -> Result<(), AllocE
 }
 
 fn write_modules(out: &mut Writer, modules: &[ModuleDef]) -> Result<(), AllocError>
-    ensures { OnOk result (Writes out.old.bytes.items out.new.bytes.items (canon.modules (map bare_module modules.now))) }
+    ensures { OnOk result (Writes out.old out.new (canon.modules (map bare_module modules.now))) }
 {
     for definition in modules {
         write_module(out, definition)?;
@@ -52,7 +52,7 @@ fn write_modules(out: &mut Writer, modules: &[ModuleDef]) -> Result<(), AllocErr
 }
 
 fn write_module(out: &mut Writer, definition: &ModuleDef) -> Result<(), AllocError>
-    ensures { OnOk result (Writes out.old.bytes.items out.new.bytes.items (canon.module_of (bare_module definition.now))) }
+    ensures { OnOk result (Writes out.old out.new (canon.module_of (bare_module definition.now))) }
 {
     write_head(out, definition)?;
     out.sign(Kind::Begin)?;
@@ -63,7 +63,7 @@ fn write_module(out: &mut Writer, definition: &ModuleDef) -> Result<(), AllocErr
 
 /// A module up to its colon.
 fn write_head(out: &mut Writer, definition: &ModuleDef) -> Result<(), AllocError>
-    ensures { OnOk result (Writes out.old.bytes.items out.new.bytes.items (canon.head (bare_module definition.now))) }
+    ensures { OnOk result (Writes out.old out.new (canon.head (bare_module definition.now))) }
 {
     out.sign(Kind::Module)?;
     out.name(&definition.name)?;
@@ -75,7 +75,7 @@ fn write_head(out: &mut Writer, definition: &ModuleDef) -> Result<(), AllocError
 
 /// Parameters with commas between them.
 fn write_params(out: &mut Writer, params: &[Param]) -> Result<(), AllocError>
-    ensures { OnOk result (Writes out.old.bytes.items out.new.bytes.items (canon.params (map bare_param params.now))) }
+    ensures { OnOk result (Writes out.old out.new (canon.params (map bare_param params.now))) }
 {
     let [first, more @ ..] = params else {
         return Ok(());
@@ -89,7 +89,7 @@ fn write_params(out: &mut Writer, params: &[Param]) -> Result<(), AllocError>
 }
 
 fn write_param(out: &mut Writer, param: &Param) -> Result<(), AllocError>
-    ensures { OnOk result (Writes out.old.bytes.items out.new.bytes.items (canon.param (bare_param param.now))) }
+    ensures { OnOk result (Writes out.old out.new (canon.param (bare_param param.now))) }
 {
     match param.kind {
         ParamKind::Channel => out.sign(Kind::Ch)?,
@@ -100,7 +100,7 @@ fn write_param(out: &mut Writer, param: &Param) -> Result<(), AllocError>
 
 /// Processes with `||` between them.
 fn write_processes(out: &mut Writer, processes: &[ProcessDef]) -> Result<(), AllocError>
-    ensures { OnOk result (Writes out.old.bytes.items out.new.bytes.items (canon.processes (map bare_process processes.now))) }
+    ensures { OnOk result (Writes out.old out.new (canon.processes (map bare_process processes.now))) }
 {
     let [first, more @ ..] = processes else {
         return Ok(());
@@ -114,7 +114,7 @@ fn write_processes(out: &mut Writer, processes: &[ProcessDef]) -> Result<(), All
 }
 
 fn write_process(out: &mut Writer, process: &ProcessDef) -> Result<(), AllocError>
-    ensures { OnOk result (Writes out.old.bytes.items out.new.bytes.items (canon.process (bare_process process.now))) }
+    ensures { OnOk result (Writes out.old out.new (canon.process (bare_process process.now))) }
 {
     out.name(&process.name)?;
     out.sign(Kind::Equal)?;
@@ -122,7 +122,7 @@ fn write_process(out: &mut Writer, process: &ProcessDef) -> Result<(), AllocErro
 }
 
 fn write_body(out: &mut Writer, body: &Body) -> Result<(), AllocError>
-    ensures { OnOk result (Writes out.old.bytes.items out.new.bytes.items (canon.body (bare_body body.now))) }
+    ensures { OnOk result (Writes out.old out.new (canon.body (bare_body body.now))) }
 {
     match body {
         Body::Inline(statements) => {
@@ -145,7 +145,7 @@ fn write_body(out: &mut Writer, body: &Body) -> Result<(), AllocError>
 
 /// Arguments with commas between them.
 fn write_arguments(out: &mut Writer, arguments: &[ExprTree]) -> Result<(), AllocError>
-    ensures { OnOk result (Writes out.old.bytes.items out.new.bytes.items (canon.arguments (map bare_expr arguments.now))) }
+    ensures { OnOk result (Writes out.old out.new (canon.arguments (map bare_expr arguments.now))) }
 {
     let [first, more @ ..] = arguments else {
         return Ok(());

@@ -21,7 +21,7 @@ impl Writer {
     /// A keyword or a sign.
     #[tactic(auto, unfolding(crate::specs::Written::written))]
     pub(crate) fn sign(&mut self, kind: Kind) -> Result<(), AllocError>
-        ensures { OnOk result (Writes self.old.bytes.items self.new.bytes.items (λ w. fixed kind ∷ w)) }
+        ensures { OnOk result (Writes self.old self.new (λ w. fixed kind ∷ w)) }
     {
         self.text(text(kind))?;
         self.byte(blank(kind))
@@ -29,7 +29,7 @@ impl Writer {
 
     /// A keyword or a sign where it is needed.
     pub(crate) fn sign_if(&mut self, is_needed: bool, kind: Kind) -> Result<(), AllocError>
-        ensures { OnOk result (Writes self.old.bytes.items self.new.bytes.items (only_if is_needed kind)) }
+        ensures { OnOk result (Writes self.old self.new (only_if is_needed kind)) }
     {
         if is_needed {
             self.sign(kind)?;
@@ -40,7 +40,7 @@ impl Writer {
     /// A name.
     #[tactic(auto, unfolding(crate::specs::Written::written))]
     pub(crate) fn name(&mut self, name: &Name) -> Result<(), AllocError>
-        ensures { OnOk result (Writes self.old.bytes.items self.new.bytes.items (λ w. named name.now ∷ w)) }
+        ensures { OnOk result (Writes self.old self.new (λ w. named name.now ∷ w)) }
     {
         self.text(name.text().as_bytes())?;
         self.byte(b' ')
@@ -49,7 +49,7 @@ impl Writer {
     /// The rate of a variable.
     #[tactic(auto, unfolding(crate::specs::Written::written))]
     pub(crate) fn rate(&mut self, variable: &Name) -> Result<(), AllocError>
-        ensures { OnOk result (Writes self.old.bytes.items self.new.bytes.items (λ w. rated variable.now ∷ w)) }
+        ensures { OnOk result (Writes self.old self.new (λ w. rated variable.now ∷ w)) }
     {
         self.text(variable.text().as_bytes())?;
         self.text(b"_dot ")
@@ -58,7 +58,7 @@ impl Writer {
     /// A number, with its digits as one number and so many of them behind the point.
     #[tactic(auto, unfolding(crate::specs::Written::written))]
     pub(crate) fn number(&mut self, number: Decimal) -> Result<(), AllocError>
-        ensures { OnOk result (Writes self.old.bytes.items self.new.bytes.items (λ w. numbered number.digits number.places ∷ w)) }
+        ensures { OnOk result (Writes self.old self.new (λ w. numbered number.digits number.places ∷ w)) }
     {
         let digits = number.digits().unsigned_abs();
         let places = u32::from(number.places());
@@ -71,7 +71,7 @@ impl Writer {
     /// A point and the last `places` digits of `digits`, or nothing where there are none.
     fn behind_point(&mut self, digits: u64, places: u32) -> Result<(), AllocError>
         requires { places ≤ 18 }
-        ensures { OnOk result (Appends self.old.bytes.items self.new.bytes.items (numerals.behind_point places digits)) }
+        ensures { OnOk result (Appends self.old self.new (numerals.behind_point places digits)) }
     {
         if places == 0 {
             return Ok(());
@@ -83,7 +83,7 @@ impl Writer {
     /// The last `count` digits of `digits`.
     fn last_digits(&mut self, digits: u64, count: u32) -> Result<(), AllocError>
         requires { count ≤ 18 }
-        ensures { OnOk result (Appends self.old.bytes.items self.new.bytes.items (numerals.last_digits count digits)) }
+        ensures { OnOk result (Appends self.old self.new (numerals.last_digits count digits)) }
     {
         let mut left = count;
         while left > 0 {
@@ -94,14 +94,14 @@ impl Writer {
     }
 
     fn text(&mut self, text: &[u8]) -> Result<(), AllocError>
-        ensures { OnOk result (Appends self.old.bytes.items self.new.bytes.items (λ z. text.now ++ z)) }
+        ensures { OnOk result (Appends self.old self.new (λ z. text.now ++ z)) }
     {
         self.bytes.extend_from_slice(text)?;
         Ok(())
     }
 
     fn byte(&mut self, byte: u8) -> Result<(), AllocError>
-        ensures { OnOk result (Appends self.old.bytes.items self.new.bytes.items (λ z. byte ∷ z)) }
+        ensures { OnOk result (Appends self.old self.new (λ z. byte ∷ z)) }
     {
         self.bytes.push(byte)?;
         Ok(())
