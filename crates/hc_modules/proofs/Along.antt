@@ -1,5 +1,5 @@
 -- Steps along a list, where each element is looked at with those before it.
-use Rattle.std.proofs.Common.{◌≡◌, refl, ap, sym, ◌∙◌, ℕ, suc, ◌+◌, ◌<◌, Bool, true, false, List, [], ◌∷◌, ◌++◌, take, drop, get_or, length, find, flat_map, zip, Option, Some, None, Result, Ok, Err, cond, add-one, arith}
+use Rattle.std.proofs.Common.{◌≡◌, refl, ap, sym, ◌∙◌, ℕ, ◌+◌, ◌<◌, Bool, true, false, List, [], ◌∷◌, ◌++◌, take, drop, get_or, length, find, flat_map, Option, Some, None, Result, Ok, Err, cond, add-one}
 use Rattle.std.proofs.Math.Seq.{drop-cons}
 use Rattle.std.proofs.lemmas.List.{take_more}
 use Rattle.hc_frac.specs.declared.place.Place.{Place}
@@ -22,7 +22,7 @@ module _ {X : Type 0} (test : List X → X → Bool) (place : X → Place) where
 
   ahead : (xs : List X) (i : ℕ) (x : X) → i < length xs → x ≡ get_or xs i x → (answer : Bool) → answer ≡ test (take i xs) x
       → first_of (along looked (take i xs) (drop i xs))
-        ≡ first_of (only_if answer (place x) ++ along looked (take (i + 1) xs) (drop (i + 1) xs))
+      ≡ first_of (only_if answer (place x) ++ along looked (take (i + 1) xs) (drop (i + 1) xs))
   ahead xs i x h is answer e =
       ap first_of (along-at looked xs i x h)
       ∙ ap (λ y. first_of (looked (take i xs) y ++ along looked (take (i + 1) xs) (drop (i + 1) xs))) (sym is)

@@ -1,5 +1,5 @@
 -- No list of a tree that the grammar has is empty where the grammar wants an element, in a call either.
-use Rattle.std.proofs.Common.{rules, arith, ◌≡◌, refl, ap, sym, ◌∙◌, ℕ, Bool, true, false, ◌&&◌, nat_le, List, [], ◌∷◌, map, length, Option, Some, None}
+use Rattle.std.proofs.Common.{rules, arith, ◌≡◌, ap, ◌∙◌, Bool, true, ◌&&◌, nat_le, List, ◌∷◌, map, length, Option, Some, None}
 use Rattle.std.specs.List.{list_all}
 use Rattle.std.proofs.lemmas.List.{length-map}
 use Rattle.std.proofs.lemmas.List.Folds.{list_all-map}
@@ -9,7 +9,6 @@ use Rattle.hc_ast.specs.declared.expr.CondTree.{CondTree}
 use Rattle.hc_ast.specs.declared.stmt.IoTree.{IoTree}
 use Rattle.hc_ast.specs.declared.stmt.RateTree.{RateTree}
 use Rattle.hc_ast.specs.declared.stmt.StmtKind.{StmtKind, the_lemmas}
-use Rattle.hc_ast.specs.declared.stmt.StmtKind.TheVariants as plain
 use Rattle.hc_ast.specs.declared.stmt.StmtKind.TheViews as seen
 use Rattle.hc_ast.specs.declared.stmt.StmtKind.TheViews.{out-roll-BranchTree}
 use Rattle.hc_ast.specs.declared.stmt.StmtKind.TheOpen.{BranchTree-F}

@@ -1,9 +1,7 @@
 -- Each tree that the grammar has is full, in a call too.
-use Rattle.std.proofs.Common.{rules, ◌≡◌, refl, ap, sym, ◌∙◌, Bool, true, ◌&&◌, List, [], ◌∷◌, map, Some, None}
+use Rattle.std.proofs.Common.{rules, ◌≡◌, refl, ap, ◌∙◌, Bool, true, ◌&&◌, map, Some, None}
 use Rattle.std.specs.List.{list_all}
 use Rattle.hc_ast.specs.declared.stmt.StmtKind.{the_lemmas}
-use Rattle.hc_ast.specs.declared.stmt.StmtKind.TheViews as seen
-use Rattle.hc_ast.specs.declared.stmt.StmtTree.{StmtTree}
 use Rattle.hc_ast.specs.Stmts as g
 use Rattle.hc_ast.specs.StmtTrees.{seq_tree, more_tree, stmt_tree, interrupt_tree, branches_tree, branch_tree, rate_tree, rates_tree}
 use Rattle.hc_modules.specs.Bindings.{Bindings}

@@ -1,5 +1,5 @@
 -- What each form of a statement is in a call.
-use Rattle.std.proofs.Common.{rules, ◌≡◌, refl, ap, sym, ◌∙◌, List, map, Option, Some, None, option_map}
+use Rattle.std.proofs.Common.{rules, ◌≡◌, List, map, Option, Some, None, option_map}
 use Rattle.hc_ast.specs.declared.expr.ExprTree.{ExprTree}
 use Rattle.hc_ast.specs.declared.expr.CondTree.{CondTree}
 use Rattle.hc_ast.specs.declared.stmt.IoTree.{IoTree}

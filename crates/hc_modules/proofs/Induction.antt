@@ -1,5 +1,5 @@
 -- Induction over statements: what holds of a statement wherever it holds of those inside it.
-use Rattle.std.proofs.Common.{◌≡◌, refl, ap, sym, ◌∙◌, subst, List, [], ◌∷◌, map, Option, Some, None}
+use Rattle.std.proofs.Common.{◌≡◌, refl, sym, subst, List, [], ◌∷◌, map, Option, Some, None}
 use denote.Hole.Carrier
 use Rattle.hc_frac.specs.declared.place.Place.{Place}
 use Rattle.hc_ast.specs.declared.expr.ExprTree.{ExprTree}
@@ -10,7 +10,7 @@ use Rattle.hc_ast.specs.declared.stmt.StmtKind.{StmtKind}
 use Rattle.hc_ast.specs.declared.stmt.StmtKind.TheVariants as plain
 use Rattle.hc_ast.specs.declared.stmt.StmtKind.TheViews as seen
 use Rattle.hc_ast.specs.declared.stmt.StmtKind.TheViews.{roll-StmtKind, roll-StmtTree, out-roll-BranchTree}
-use Rattle.hc_ast.specs.declared.stmt.StmtKind.TheOpen.{StmtKind-F, BranchTree-F, StmtTree-F}
+use Rattle.hc_ast.specs.declared.stmt.StmtKind.TheOpen.{StmtKind-F, BranchTree-F}
 use Rattle.hc_ast.specs.declared.stmt.StmtKind.TheFolds.{ind-StmtTree, map-StmtKind, map-BranchTree}
 use Rattle.hc_ast.specs.declared.stmt.StmtTree.{StmtTree}
 use Rattle.hc_ast.specs.declared.stmt.BranchTree.{BranchTree, roll-BranchTree, out-BranchTree}

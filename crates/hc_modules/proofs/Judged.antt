@@ -1,5 +1,5 @@
 -- Refusals of one kind after those of another.
-use Rattle.std.proofs.Common.{◌≡◌, refl, ap, sym, ◌∙◌, List, [], ◌∷◌, ◌++◌, map, Result, Ok, Err}
+use Rattle.std.proofs.Common.{◌≡◌, refl, List, [], ◌∷◌, ◌++◌, map, Ok, Err}
 use Rattle.hc_modules.specs.declared.flat.ModuleStop.{ModuleStop}
 use Rattle.hc_frac.specs.declared.place.Place.{Place}
 use Rattle.hc_modules.specs.Found.{first_of, judged}

@@ -6,6 +6,7 @@ pub mod NodesBeyond
 pub mod Full
 pub mod FullTrees
 pub mod Nothing
+pub mod WellFacts
 pub mod Judged
 pub mod WrittenForms
 pub mod Induction

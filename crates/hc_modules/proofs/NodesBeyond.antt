@@ -1,5 +1,5 @@
 -- The count of nodes ends where the definition finds the first expression with too many.
-use Rattle.std.proofs.Common.{◌≡◌, refl, ap, sym, ◌∙◌, ℕ, ◌+◌, Bool, true, false, nat_lt, List, [], ◌∷◌, ◌++◌, fold, sum_by, Result, Ok, Err, if◌then◌else◌, arith}
+use Rattle.std.proofs.Common.{◌≡◌, refl, ap, sym, ◌∙◌, ◌+◌, Bool, true, false, nat_lt, List, [], ◌∷◌, ◌++◌, fold, Result, Ok, Err, if◌then◌else◌, arith}
 use Rattle.std.proofs.lemmas.List.Sums.{sum_by-append, sum_by-cons}
 use Rattle.hc_frac.specs.declared.place.Place.{Place}
 use Rattle.hc_modules.specs.declared.nodes.NodeCount.{NodeCount}
@@ -33,7 +33,7 @@ from_here before (x ∷ xs) =
   where
     at : (b : Bool) → answer_of (fold add (Within (total_size (before ++ x ∷ []))) xs) ≡ first_of (behind (before ++ x ∷ []) xs)
         → answer_of (fold add (if b then Beyond x.place else Within (total_size before + x.size)) xs)
-          ≡ first_of (only_if b x.place ++ behind (before ++ x ∷ []) xs)
+        ≡ first_of (only_if b x.place ++ behind (before ++ x ∷ []) xs)
     at true h = ap answer_of (stays_beyond x.place xs)
     at false h = ap (λ n. answer_of (fold add (Within n) xs)) (sym (one_more before x)) ∙ h
 

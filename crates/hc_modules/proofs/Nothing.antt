@@ -1,6 +1,6 @@
 -- What it means that a phase finds nothing.
-use Rattle.std.proofs.Common.{◌≡◌, refl, ap, sym, ◌∙◌, subst, ℕ, ◌+◌, ◌<◌, ◌≤◌, Bool, true, false, not, ◌&&◌, ◌||◌, nat_lt, List, [], ◌∷◌, ◌++◌, map, flat_map, append_assoc, append-nil, arith}
-use Rattle.std.specs.List.{list_all, list_any}
+use Rattle.std.proofs.Common.{◌≡◌, refl, sym, subst, ℕ, ◌≤◌, Bool, true, false, not, ◌&&◌, ◌||◌, nat_lt, List, [], ◌∷◌, ◌++◌, map, flat_map, append_assoc, append-nil}
+use Rattle.std.specs.List.{list_any}
 use Rattle.std.proofs.lemmas.Bool.{ltb-false}
 use Rattle.hc_frac.specs.declared.place.Place.{Place}
 use Rattle.hc_modules.specs.Finds.{only_if, along}
@@ -34,9 +34,9 @@ within_all size most place before [] h e = subst (λ ys. size ys ≤ most) (sym 
 within_all size most place before (x ∷ xs) h e =
     let look = λ (before : List _) (x : _). only_if (nat_lt most (size (before ++ x ∷ []))) (place x) in
     let here = ltb-false most (size (before ++ x ∷ []))
-      (not_found (nat_lt most (size (before ++ x ∷ []))) (place x) (left_empty (look before x) (along look (before ++ x ∷ []) xs) e)) in
+    (not_found (nat_lt most (size (before ++ x ∷ []))) (place x) (left_empty (look before x) (along look (before ++ x ∷ []) xs) e)) in
     subst (λ ys. size ys ≤ most) (append_assoc before (x ∷ []) xs)
-      (within_all size most place (before ++ x ∷ []) xs here (right_empty (look before x) (along look (before ++ x ∷ []) xs) e))
+    (within_all size most place (before ++ x ∷ []) xs here (right_empty (look before x) (along look (before ++ x ∷ []) xs) e))
 
 module _ {X : Type 0} (same : X → X → Bool) (place : X → Place) where
   abbrev pub apart : List X → Bool
@@ -63,9 +63,10 @@ module _ {X : Type 0} (same : X → X → Bool) (place : X → Place) where
 
   unlike_more : (before : List X) (x : X) (xs : List X) → list_any (λ y. same y x) before ≡ false → Unlike before xs → Unlike before (x ∷ xs)
   unlike_more [] x xs e h = tt
-  unlike_more (y ∷ ys) x xs e h =
-      (neither (same y x) (list_any (same y) xs) (first_false (same y x) (list_any (λ z. same z x) ys) e) h.0,
-      unlike_more ys x xs (second_false (same y x) (list_any (λ z. same z x) ys) e) h.1)
+  unlike_more (y ∷ ys) x xs e h = (
+    neither (same y x) (list_any (same y) xs) (first_false (same y x) (list_any (λ z. same z x) ys) e) h.0,
+    unlike_more ys x xs (second_false (same y x) (list_any (λ z. same z x) ys) e) h.1,
+  )
 
   unlike_front : (before : List X) (x : X) (xs : List X) → Unlike (before ++ x ∷ []) xs → Unlike before xs × (list_any (same x) xs ≡ false)
   unlike_front [] x xs h = (tt, h.0)

@@ -1,5 +1,5 @@
 -- The outermost expressions of each form of a statement in a call.
-use Rattle.std.proofs.Common.{rules, ◌≡◌, refl, ap, sym, ◌∙◌, List, [], ◌∷◌, ◌++◌, map, flat_map, fold, Option, Some, None, option_map}
+use Rattle.std.proofs.Common.{rules, ◌≡◌, refl, ap, ◌∙◌, List, [], ◌∷◌, ◌++◌, map, flat_map, fold, Option, Some, None}
 use Rattle.std.proofs.lemmas.List.{append-nil}
 use Rattle.hc_ast.specs.declared.expr.ExprTree.{ExprTree}
 use Rattle.hc_ast.specs.declared.expr.CondTree.{CondTree}
@@ -92,7 +92,7 @@ module _ (b : Bindings) (n : NodeCount) where
   counted-If s c ss (Some rs) e =
       along s _ _ (in-If b s c ss (Some rs) e)
       (fold-choose (List Outermost) (List Outermost) (List Outermost) outermost_layer outermost_branch (λ t. t.kind)
-        _ (cond_in b c) (map (stmt_in b) ss) (map (stmt_in b) rs) refl
+      _ (cond_in b c) (map (stmt_in b) ss) (map (stmt_in b) rs) refl
       ∙ ap (λ os. of_cond (cond_in b c) ∷ os) (both_rows outermost (map (stmt_in b) ss) (map (stmt_in b) rs)))
       ∙ fold-append add (add n (of_cond (cond_in b c))) (flat_map outermost (map (stmt_in b) ss)) (flat_map outermost (map (stmt_in b) rs))
 
@@ -125,7 +125,7 @@ module _ (b : Bindings) (n : NodeCount) where
       (outermost-Evolve _ (map (rate_in b) rs) (cond_in b c) (map (branch_in b) bs) refl
       ∙ ap (λ os. map (λ r. of_expr r.value) (map (rate_in b) rs) ++ of_cond (cond_in b c) ∷ os) (rows branch_outermost (map (branch_in b) bs)))
       ∙ fold-append add n (map (λ r. of_expr r.value) (map (rate_in b) rs))
-        (of_cond (cond_in b c) ∷ flat_map branch_outermost (map (branch_in b) bs))
+      (of_cond (cond_in b c) ∷ flat_map branch_outermost (map (branch_in b) bs))
 
   branch_outermost-is : (x : BranchTree)
       → branch_outermost x ≡ of_io (out-BranchTree x).io ++ in_a_row (map outermost (out-BranchTree x).body)
@@ -136,8 +136,8 @@ module _ (b : Bindings) (n : NodeCount) where
   counted-branch x =
       ap (λ y. fold add n (branch_outermost y)) (in-branch b x)
       ∙ ap (fold add n) (branch_outermost-is _
-        ∙ ap (λ y. of_io y.io ++ in_a_row (map outermost y.body)) (out-roll-BranchTree (layer_in x))
-        ∙ ap (λ os. of_io (io_in b (out-BranchTree x).io) ++ os) (rows outermost (map (stmt_in b) (out-BranchTree x).body)))
+      ∙ ap (λ y. of_io y.io ++ in_a_row (map outermost y.body)) (out-roll-BranchTree (layer_in x))
+      ∙ ap (λ os. of_io (io_in b (out-BranchTree x).io) ++ os) (rows outermost (map (stmt_in b) (out-BranchTree x).body)))
       ∙ fold-append add n (of_io (io_in b (out-BranchTree x).io)) (flat_map outermost (map (stmt_in b) (out-BranchTree x).body))
     where
       layer_in : BranchTree → BranchTree-F StmtKind BranchTree StmtTree

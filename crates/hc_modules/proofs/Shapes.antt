@@ -4,7 +4,6 @@ use Rattle.std.proofs.lemmas.List.Sums.{sum-map, sum_by-cons}
 use Rattle.hc_ast.specs.declared.expr.CondTree.{CondTree}
 use Rattle.hc_ast.specs.declared.stmt.RateTree.{RateTree}
 use Rattle.hc_ast.specs.declared.stmt.StmtKind.{StmtKind, the_lemmas}
-use Rattle.hc_ast.specs.declared.stmt.StmtKind.TheVariants as plain
 use Rattle.hc_ast.specs.declared.stmt.StmtKind.TheViews as seen
 use Rattle.hc_ast.specs.declared.stmt.StmtKind.TheViews.{out-roll-BranchTree}
 use Rattle.hc_ast.specs.declared.stmt.StmtKind.TheOpen.{BranchTree-F}
@@ -92,23 +91,23 @@ module _ (bs : Bindings) where
     io = λ s i e. search (rules, the_lemmas);
     log = λ s a e. search (rules, the_lemmas);
     when = λ s c ss no e f g.
-      let h = ap statements (in-If bs s c ss no e) ∙ statements-If _ _ _ _ refl in
-      omega (arith, h, statements-If s c ss no e, all_counted ss f, else_counted no g);
+        let h = ap statements (in-If bs s c ss no e) ∙ statements-If _ _ _ _ refl in
+        omega (arith, h, statements-If s c ss no e, all_counted ss f, else_counted no g);
     pick = λ s ss rs e f g.
-      let h = ap statements (in-Pick bs s ss rs e) ∙ statements-Pick _ _ _ refl in
-      omega (arith, h, statements-Pick s ss rs e, all_counted ss f, all_counted rs g);
+        let h = ap statements (in-Pick bs s ss rs e) ∙ statements-Pick _ _ _ refl in
+        omega (arith, h, statements-Pick s ss rs e, all_counted ss f, all_counted rs g);
     forever = λ s ss e f.
-      let h = ap statements (in-Forever bs s ss e) ∙ statements-Forever _ _ refl in
-      omega (arith, h, statements-Forever s ss e, all_counted ss f);
+        let h = ap statements (in-Forever bs s ss e) ∙ statements-Forever _ _ refl in
+        omega (arith, h, statements-Forever s ss e, all_counted ss f);
     loop = λ s c ss e f.
-      let h = ap statements (in-Loop bs s c ss e) ∙ statements-Loop _ _ _ refl in
-      omega (arith, h, statements-Loop s c ss e, all_counted ss f);
+        let h = ap statements (in-Loop bs s c ss e) ∙ statements-Loop _ _ _ refl in
+        omega (arith, h, statements-Loop s c ss e, all_counted ss f);
     choice = λ s brs e f.
-      let h = ap statements (in-Choice bs s brs e) ∙ statements-Choice _ _ refl in
-      omega (arith, h, statements-Choice s brs e, branches_counted brs f);
+        let h = ap statements (in-Choice bs s brs e) ∙ statements-Choice _ _ refl in
+        omega (arith, h, statements-Choice s brs e, branches_counted brs f);
     evolve = λ s rs c brs e f.
-      let h = ap statements (in-Evolve bs s rs c brs e) ∙ statements-Evolve _ _ _ _ refl in
-      omega (arith, h, statements-Evolve s rs c brs e, branches_counted brs f);
+        let h = ap statements (in-Evolve bs s rs c brs e) ∙ statements-Evolve _ _ _ _ refl in
+        omega (arith, h, statements-Evolve s rs c brs e, branches_counted brs f);
   }
 
   pub statements-in : (s : StmtTree) → statements (stmt_in bs s) ≡ statements s

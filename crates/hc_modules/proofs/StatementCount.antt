@@ -1,5 +1,5 @@
 -- The count of statements, process by process.
-use Rattle.std.proofs.Common.{◌≡◌, refl, ap, sym, ◌∙◌, ℕ, suc, add-one, ◌+◌, ◌<◌, ◌≤◌, Bool, true, false, nat_lt, List, [], ◌∷◌, ◌++◌, map, sum_by, take, drop, get_or, length, Result, Ok, Err, arith}
+use Rattle.std.proofs.Common.{◌≡◌, ap, sym, ◌∙◌, ℕ, suc, add-one, ◌+◌, ◌<◌, ◌≤◌, nat_lt, List, [], ◌∷◌, ◌++◌, map, take, drop, get_or, length, Err, arith}
 use Rattle.std.proofs.lemmas.List.Sums.{sum_by-append, sum_by-cons}
 use Rattle.std.proofs.lemmas.List.{take_more, map-append}
 use Rattle.std.proofs.Math.Seq.{drop-cons}
@@ -30,7 +30,7 @@ module _ {X : Type 0} (f : X → FlatProcess) (xs : List X) (i : ℕ) (x : X) (h
 
   pub too_many_at : too_many_behind (map f (take i xs)) (map f (drop i xs))
       ≡ only_if (nat_lt 10000 (all_statements (map f (take (i + 1) xs)))) (f x).place
-        ++ too_many_behind (map f (take (i + 1) xs)) (map f (drop (i + 1) xs))
+      ++ too_many_behind (map f (take (i + 1) xs)) (map f (drop (i + 1) xs))
   too_many_at =
       ap (too_many_behind (map f (take i xs))) one_behind
       ∙ ap (λ b. only_if (nat_lt 10000 (all_statements b)) (f x).place ++ too_many_behind b (map f (drop (i + 1) xs))) (sym one_before)
@@ -45,7 +45,7 @@ module _ {X : Type 0} (f : X → FlatProcess) (xs : List X) (i : ℕ) (x : X) (h
   -- and else goes on
   pub goes_on_within : (n : ℕ) → all_statements (map f (take (i + 1) xs)) ≤ 10000
       → count_of (too_many_behind (map f (take i xs)) (map f (drop i xs))) n
-        ≡ count_of (too_many_behind (map f (take (i + 1) xs)) (map f (drop (i + 1) xs))) n
+      ≡ count_of (too_many_behind (map f (take (i + 1) xs)) (map f (drop (i + 1) xs))) n
   goes_on_within n k =
       ap (λ ps. count_of ps n) too_many_at
       ∙ ap (λ b. count_of (only_if b (f x).place ++ too_many_behind (map f (take (i + 1) xs)) (map f (drop (i + 1) xs))) n) (le-ltb 10000 (all_statements (map f (take (i + 1) xs))) k)

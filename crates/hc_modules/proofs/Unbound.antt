@@ -1,7 +1,7 @@
 -- A call without parameters changes nothing.
 use Rattle.std.proofs.Common.{rules, ◌≡◌, refl, ap, sym, ◌∙◌, subst, List, [], ◌∷◌, map, Option, Some, None, option_map}
 use Rattle.hc_ast.specs.declared.expr.ExprKind.{ExprKind, the_lemmas as expr_lemmas}
-use Rattle.hc_ast.specs.declared.expr.ExprKind.TheFolds.{ind-ExprTree, map-ExprKind, fold-ExprKind}
+use Rattle.hc_ast.specs.declared.expr.ExprKind.TheFolds.{ind-ExprTree, map-ExprKind}
 use Rattle.hc_ast.specs.declared.expr.ExprKind.TheViews.{roll-ExprKind, roll-ExprTree}
 use Rattle.hc_ast.specs.declared.expr.ExprKind.TheOpen.{ExprKind-F}
 use Rattle.hc_ast.specs.declared.expr.ExprTree.{ExprTree}
@@ -25,7 +25,7 @@ use Rattle.hc_modules.proofs.Induction.{Each, EachElse, EachBehind, Steps, by_in
 use Rattle.hc_modules.proofs.InForms.{in-Skip, in-Assign, in-Wait, in-Io, in-Log, in-If, in-Pick, in-Forever, in-Loop, in-Choice, in-Evolve, in-branch}
 use Rattle.hc_frac.specs.declared.place.Place.{Place}
 use Rattle.hc_ast.specs.Exprs.{expr_at}
-use Rattle.hc_modules.specs.Replaced.{expr_in, expr_layer, cond_in, io_in, rate_in, stmt_in, branch_in}
+use Rattle.hc_modules.specs.Replaced.{expr_in, cond_in, io_in, rate_in, stmt_in, branch_in}
 
 abbrev KindWith : Type 0
 KindWith = (k : ExprKind) × ((p : Place) → expr_in [] (expr_at p k) ≡ expr_at p k)
@@ -35,7 +35,7 @@ ExprWith = (a : ExprTree) × (expr_in [] a ≡ a)
 
 kind_unbound : (y : ExprKind-F KindWith ExprWith) (p : Place)
     → expr_in [] (expr_at p (roll-ExprKind (map-ExprKind KindWith ExprWith ExprKind ExprTree (λ e. e.0) (λ e. e.0) y)))
-      ≡ expr_at p (roll-ExprKind (map-ExprKind KindWith ExprWith ExprKind ExprTree (λ e. e.0) (λ e. e.0) y))
+    ≡ expr_at p (roll-ExprKind (map-ExprKind KindWith ExprWith ExprKind ExprTree (λ e. e.0) (λ e. e.0) y))
 kind_unbound (ExprKind-F.Number d) p = search (rules, expr_lemmas)
 kind_unbound (ExprKind-F.Name x) p = search (rules, expr_lemmas)
 kind_unbound (ExprKind-F.Neg a) p = let e = a.1 in search (rules, expr_lemmas)
@@ -54,7 +54,7 @@ CondWith = (c : CondTree) × (cond_in [] c ≡ c)
 
 cond_kind_unbound : (y : CondKind-F CondKindWith CondWith) (p : Place)
     → cond_in [] (cond_at p (roll-CondKind (map-CondKind CondKindWith CondWith CondKind CondTree (λ e. e.0) (λ e. e.0) y)))
-      ≡ cond_at p (roll-CondKind (map-CondKind CondKindWith CondWith CondKind CondTree (λ e. e.0) (λ e. e.0) y))
+    ≡ cond_at p (roll-CondKind (map-CondKind CondKindWith CondWith CondKind CondTree (λ e. e.0) (λ e. e.0) y))
 cond_kind_unbound CondKind-F.True p = search (rules, cond_lemmas)
 cond_kind_unbound CondKind-F.False p = search (rules, cond_lemmas)
 cond_kind_unbound (CondKind-F.Compare how a b) p = let e = expr_unbound a in let f = expr_unbound b in search (rules, cond_lemmas)
@@ -112,19 +112,19 @@ unbound_steps = record {
   io = λ s i e. in-Io [] s i e ∙ ap (λ j. stmt_at s.place (plain.Io j)) (io_unbound i) ∙ itself s _ e;
   log = λ s a e. in-Log [] s a e ∙ ap (λ b. stmt_at s.place (plain.Log b)) (expr_unbound a) ∙ itself s _ e;
   when = λ s c ss no e f g. in-If [] s c ss no e
-    ∙ ap (λ d. stmt_at s.place (seen.If d (map (stmt_in []) ss) (option_map (map (stmt_in [])) no))) (cond_unbound c)
-    ∙ ap (λ rs. stmt_at s.place (seen.If c rs (option_map (map (stmt_in [])) no))) (all_unbound ss f)
-    ∙ ap (λ o. stmt_at s.place (seen.If c ss o)) (else_unbound no g) ∙ itself s _ e;
+      ∙ ap (λ d. stmt_at s.place (seen.If d (map (stmt_in []) ss) (option_map (map (stmt_in [])) no))) (cond_unbound c)
+      ∙ ap (λ rs. stmt_at s.place (seen.If c rs (option_map (map (stmt_in [])) no))) (all_unbound ss f)
+      ∙ ap (λ o. stmt_at s.place (seen.If c ss o)) (else_unbound no g) ∙ itself s _ e;
   pick = λ s ss rs e f g. in-Pick [] s ss rs e ∙ ap (λ us. stmt_at s.place (seen.Pick us (map (stmt_in []) rs))) (all_unbound ss f)
-    ∙ ap (λ us. stmt_at s.place (seen.Pick ss us)) (all_unbound rs g) ∙ itself s _ e;
+      ∙ ap (λ us. stmt_at s.place (seen.Pick ss us)) (all_unbound rs g) ∙ itself s _ e;
   forever = λ s ss e f. in-Forever [] s ss e ∙ ap (λ us. stmt_at s.place (seen.Forever us)) (all_unbound ss f) ∙ itself s _ e;
   loop = λ s c ss e f. in-Loop [] s c ss e ∙ ap (λ d. stmt_at s.place (seen.Loop d (map (stmt_in []) ss))) (cond_unbound c)
-    ∙ ap (λ us. stmt_at s.place (seen.Loop c us)) (all_unbound ss f) ∙ itself s _ e;
+      ∙ ap (λ us. stmt_at s.place (seen.Loop c us)) (all_unbound ss f) ∙ itself s _ e;
   choice = λ s bs e f. in-Choice [] s bs e ∙ ap (λ us. stmt_at s.place (seen.Choice us)) (branches_unbound bs f) ∙ itself s _ e;
   evolve = λ s rs c bs e f. in-Evolve [] s rs c bs e
-    ∙ ap (λ us. stmt_at s.place (seen.Evolve us (cond_in [] c) (map (branch_in []) bs))) (rates_unbound rs)
-    ∙ ap (λ d. stmt_at s.place (seen.Evolve rs d (map (branch_in []) bs))) (cond_unbound c)
-    ∙ ap (λ us. stmt_at s.place (seen.Evolve rs c us)) (branches_unbound bs f) ∙ itself s _ e;
+      ∙ ap (λ us. stmt_at s.place (seen.Evolve us (cond_in [] c) (map (branch_in []) bs))) (rates_unbound rs)
+      ∙ ap (λ d. stmt_at s.place (seen.Evolve rs d (map (branch_in []) bs))) (cond_unbound c)
+      ∙ ap (λ us. stmt_at s.place (seen.Evolve rs c us)) (branches_unbound bs f) ∙ itself s _ e;
 }
 
 pub stmt_unbound : (s : StmtTree) → stmt_in [] s ≡ s

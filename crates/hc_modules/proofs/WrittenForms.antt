@@ -101,7 +101,7 @@ module _ (look : Written → List Place) where
 
   pub found-branch : (b : BranchTree)
       → first_of (flat_map look (branch_written b))
-        ≡ first_then (first_of (flat_map look (by_io (out-BranchTree b).io (out-BranchTree b).place))) (all_found (out-BranchTree b).body)
+      ≡ first_then (first_of (flat_map look (by_io (out-BranchTree b).io (out-BranchTree b).place))) (all_found (out-BranchTree b).body)
   found-branch b =
       let h : branch_written b ≡ by_io (out-BranchTree b).io (out-BranchTree b).place ++ in_a_row (map written (out-BranchTree b).body) = search (rules, the_lemmas) in
       ap (λ ws. first_of (flat_map look ws)) (h ∙ ap (λ ws. by_io (out-BranchTree b).io (out-BranchTree b).place ++ ws) (rows written (out-BranchTree b).body))

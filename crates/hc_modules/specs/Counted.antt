@@ -1,5 +1,5 @@
 -- The count of nodes along outermost expressions, as the code has it.
-use Rattle.std.specs.Prelude.{ℕ, ◌+◌, nat_lt, if◌then◌else◌}
+use Rattle.std.specs.Prelude.{◌+◌, nat_lt, if◌then◌else◌}
 use Rattle.hc_modules.specs.declared.nodes.NodeCount.{NodeCount}
 use Rattle.hc_modules.specs.declared.nodes.NodeCount.TheVariants.{Within, Beyond}
 use Rattle.hc_modules.specs.Outermost.{Outermost}

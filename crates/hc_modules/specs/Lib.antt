@@ -9,3 +9,4 @@ pub mod Well
 pub mod Calls
 pub mod Found
 pub mod Counted
+pub mod Laws

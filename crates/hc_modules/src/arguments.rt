@@ -33,7 +33,8 @@ fn known(modules: &[ModuleDef], body: &Body) -> Result<(), Place>
         place,
         module,
         arguments: _,
-    } = body else {
+    } = body
+    else {
         return Ok(());
     };
     match module_of(modules, module) {
@@ -43,7 +44,10 @@ fn known(modules: &[ModuleDef], body: &Body) -> Result<(), Place>
 }
 
 /// An error is the first call of a name that no module has.
-pub(crate) fn no_unknown_module(modules: &[ModuleDef], processes: &[ProcessDef]) -> Result<(), Place>
+pub(crate) fn no_unknown_module(
+    modules: &[ModuleDef],
+    processes: &[ProcessDef],
+) -> Result<(), Place>
     ensures { result ≡ first_of (spec.unknown_modules modules.now processes.now) }
 {
     for process in processes {
@@ -59,7 +63,8 @@ fn counted(modules: &[ModuleDef], body: &Body) -> Result<(), Place>
         place,
         module,
         arguments,
-    } = body else {
+    } = body
+    else {
         return Ok(());
     };
     if params_of(modules, module).len() == arguments.as_slice().len() {
@@ -129,7 +134,10 @@ fn fits(modules: &[ModuleDef], body: &Body) -> Result<(), Place>
 }
 
 /// An error is the first argument that can't stand for its parameter.
-pub(crate) fn no_argument_misfit(modules: &[ModuleDef], processes: &[ProcessDef]) -> Result<(), Place>
+pub(crate) fn no_argument_misfit(
+    modules: &[ModuleDef],
+    processes: &[ProcessDef],
+) -> Result<(), Place>
     ensures { result ≡ first_of (spec.arguments_misfit modules.now processes.now) }
 {
     for process in processes {

@@ -25,7 +25,9 @@ fn statements_of(stmt: &StmtTree) -> u32
         }
         StmtKind::Forever { body } => statements_of_all(body.as_slice()).saturating_add(1),
         StmtKind::Loop { test: _, body } => statements_of_all(body.as_slice()).saturating_add(1),
-        StmtKind::Choice { branches } => statements_of_branches(branches.as_slice()).saturating_add(1),
+        StmtKind::Choice { branches } => statements_of_branches(branches.as_slice()).saturating_add(
+            1,
+        ),
         StmtKind::Evolve {
             rates: _,
             domain: _,

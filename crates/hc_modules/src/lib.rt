@@ -1,4 +1,4 @@
-//! Modules: each process of a source by itself, with its module's statements where it calls one.
+//! Expansion: each process of a source by itself, with the statements of the module that it calls.
 #![tactic(auto)]
 
 mod arguments;
@@ -6,7 +6,7 @@ mod call;
 mod counts;
 mod expanding;
 mod flat;
-
+mod laws;
 mod names;
 mod nodes;
 mod replaced;
@@ -14,5 +14,5 @@ mod sizes;
 mod written;
 
 pub use expanding::expand;
-
 pub use flat::{Flat, FlatProcess, ModuleStop};
+pub use laws::{flats, trees};

@@ -7,11 +7,11 @@ use Rattle.hc_modules.proofs.names.no_repeated_process.Goals as goal
 pub returns-then-is_process : goal.returns-then-is_process
 returns-then-is_process c =
     found_at (λ before x. list_any (λ y. same_word y.name x.name) before) (λ x. x.place) c.args.processes.now c.loop-at.at c.index-processes-at.result
-      c.loop-at-test.true c.index-processes-at.is c.is_process.result c.is_process.ensures c.if-is_process.true
+    c.loop-at-test.true c.index-processes-at.is c.is_process.result c.is_process.ensures c.if-is_process.true
     ∙ sym c.loop-at.invariant
 
 pub loop-at-preserved : goal.loop-at-preserved
 loop-at-preserved c =
     c.loop-at.invariant
     ∙ passed_at (λ before x. list_any (λ y. same_word y.name x.name) before) (λ x. x.place) c.args.processes.now c.loop-at.at c.index-processes-at.result
-      c.loop-at-test.true c.index-processes-at.is c.is_process.result c.is_process.ensures c.if-is_process.false
+    c.loop-at-test.true c.index-processes-at.is c.is_process.result c.is_process.ensures c.if-is_process.false

@@ -13,14 +13,21 @@ loop-process-preserved c =
     let i = c.loop-process.process-index in
     let x = c.process-item.result in
     let here : process_statements (f x) ≡ total c.work_of.result.statements.now =
-      ap total (sym c.work_of.ensures) ∙ total-in (bindings c.work_of.result.call) c.work_of.result.statements.now in
+    ap total (sym c.work_of.ensures) ∙ total-in (bindings c.work_of.result.call) c.work_of.result.statements.now in
     let before = statements_before f ps i x c.loop-process-test.true c.process-item.is in
     let counted : c.saturating_add-counted.result ≡ all_statements (map f (take (i + 1) ps)) =
-      omega (arith, here, before, c.loop-process.invariant.counted, c.statements_of_all-here.ensures, c.saturating_add-counted.ensures,
-        c.if-counted-gt-MOST_STATEMENTS.false) in
+    omega (
+      arith,
+      here,
+      before,
+      c.loop-process.invariant.counted,
+      c.statements_of_all-here.ensures,
+      c.saturating_add-counted.ensures,
+      c.if-counted-gt-MOST_STATEMENTS.false,
+    ) in
     record {
       rest = c.loop-process.invariant.rest
-        ∙ goes_on_within f ps i x c.loop-process-test.true c.process-item.is (all_statements (map f ps))
+          ∙ goes_on_within f ps i x c.loop-process-test.true c.process-item.is (all_statements (map f ps))
           (omega (arith, counted, c.if-counted-gt-MOST_STATEMENTS.false));
       counted = counted;
       few = c.if-counted-gt-MOST_STATEMENTS.false;
@@ -33,9 +40,16 @@ returns-then-counted-gt-MOST_STATEMENTS c =
     let i = c.loop-process.process-index in
     let x = c.process-item.result in
     let here : process_statements (f x) ≡ total c.work_of.result.statements.now =
-      ap total (sym c.work_of.ensures) ∙ total-in (bindings c.work_of.result.call) c.work_of.result.statements.now in
+    ap total (sym c.work_of.ensures) ∙ total-in (bindings c.work_of.result.call) c.work_of.result.statements.now in
     let before = statements_before f ps i x c.loop-process-test.true c.process-item.is in
     let many : 10000 < all_statements (map f (take (i + 1) ps)) =
-      omega (arith, here, before, c.loop-process.invariant.counted, c.statements_of_all-here.ensures, c.saturating_add-counted.ensures,
-        c.if-counted-gt-MOST_STATEMENTS.true) in
+    omega (
+      arith,
+      here,
+      before,
+      c.loop-process.invariant.counted,
+      c.statements_of_all-here.ensures,
+      c.saturating_add-counted.ensures,
+      c.if-counted-gt-MOST_STATEMENTS.true,
+    ) in
     ends_beyond f ps i x c.loop-process-test.true c.process-item.is (all_statements (map f ps)) many ∙ sym c.loop-process.invariant.rest

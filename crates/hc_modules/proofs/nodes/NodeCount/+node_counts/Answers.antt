@@ -21,7 +21,7 @@ stmt-returns-in-Some t c =
     let n = c.args.self in
     c.stmts.ensures ∙ ap (all_counted b n c.stmts-first.result) c.as_slice-in-Some.ensures
     ∙ ap (λ m. all_counted b n m c.in-Some.no)
-      (c.stmts-first.ensures ∙ ap (all_counted b n c.cond.result) c.as_slice.ensures ∙ ap (λ m. all_counted b n m c.in-If.yes) c.cond.ensures)
+    (c.stmts-first.ensures ∙ ap (all_counted b n c.cond.result) c.as_slice.ensures ∙ ap (λ m. all_counted b n m c.in-If.yes) c.cond.ensures)
     ∙ sym (ap (else_counted b n (all_counted b n (add n (of_cond (cond_in b c.in-If.test))) c.in-If.yes)) c.in-Some.is)
     ∙ sym (counted-If b n _ _ _ _ c.in-If.is)
 
@@ -59,6 +59,6 @@ stmt-returns-in-Evolve t c =
     let n = c.args.self in
     c.branches-in-Evolve.ensures ∙ ap (branches_counted b n c.cond-first.result) c.as_slice-in-Evolve-2.ensures
     ∙ ap (λ m. branches_counted b n m c.in-Evolve.branches)
-      (c.cond-first.ensures ∙ ap (λ m. add m (of_cond (cond_in b c.in-Evolve.domain)))
-        (c.rates.ensures ∙ ap (λ rs. fold add n (map (λ r. of_expr r.value) (map (rate_in b) rs))) c.as_slice-in-Evolve.ensures))
+    (c.cond-first.ensures ∙ ap (λ m. add m (of_cond (cond_in b c.in-Evolve.domain)))
+    (c.rates.ensures ∙ ap (λ rs. fold add n (map (λ r. of_expr r.value) (map (rate_in b) rs))) c.as_slice-in-Evolve.ensures))
     ∙ sym (counted-Evolve b n _ _ _ _ c.in-Evolve.is)

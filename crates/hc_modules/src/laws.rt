@@ -1,0 +1,16 @@
+//! Laws of the definitions.
+
+ghost use Rattle.hc_modules.specs.Laws.{OneExpansion, OneRefusal, ExpandedIsNotRefused};
+ghost use Rattle.hc_modules.specs.Well.{FlatsAreWell};
+
+/// What holds of all trees. There is nothing to run: the clauses are the laws.
+pub fn trees()
+    ensures one_expansion { OneExpansion }
+    ensures one_refusal { OneRefusal }
+    ensures not_refused { ExpandedIsNotRefused }
+{}
+
+/// What holds of every expansion of a tree that the grammar has. There is nothing to run: the clause is the law.
+pub fn flats()
+    ensures well { FlatsAreWell }
+{}
