@@ -2,4 +2,4 @@ pub mod Words
 pub mod Refusals
 pub mod Replies
 pub mod Complete
-pub mod Simulations
+pub mod Prepared

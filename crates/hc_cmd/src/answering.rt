@@ -8,7 +8,7 @@ ghost use Rattle.hc_reply.specs.Sinks.{Stands};
 ghost use Rattle.hc_cmd.specs.Replies.{Replies};
 ghost use Rattle.hc_cmd.specs.Complete.{IsComplete};
 
-use crate::simulation::Simulation;
+use crate::prepared::Prepared;
 use hc_reply::tell;
 use hc_world::{Sink, Source};
 use std::alloc::Global;
@@ -26,9 +26,9 @@ fn reply_to<S: Source, O: Sink, E: Sink>(
     ensures { (reply : Reply) × Replies S.left S.faults (map string_bytes words.now.items) source.old source.new reply
         × Stands O.told O.faults E.told E.faults out.old out.new err.old err.new reply result }
 {
-    match Simulation::of_words(alloc, words, source) {
-        Ok(simulation) => match simulation.write(out) {
-            Ok(()) => simulation.status(),
+    match Prepared::of_words(alloc, words, source) {
+        Ok(prepared) => match prepared.write(out) {
+            Ok(()) => prepared.status(),
             Err(_) => WRITE_FAILED,
         },
         Err(refusal) => match tell(err, refusal.line().as_str()) {

@@ -2,6 +2,7 @@
 #![tactic(auto)]
 
 mod answering;
+mod prepared;
 mod refusal;
 mod simulation;
 mod words;

@@ -1,27 +1,23 @@
-//! The simulation of a text: all that wants memory first, then the writing.
+//! The simulation of a source: all that wants memory first, then the writing.
 
-ghost use Rattle.std.specs.Prelude.{◌≡◌, ◌≤◌, ◌⊎◌, length, MatchResult, map, pos};
+ghost use Rattle.std.specs.Prelude.{◌≡◌, ◌⊎◌, MatchResult, pos};
 ghost use Rattle.hc_rational.specs.Rational.{whole};
 ghost use Rattle.hc_term.specs.Given.{HasParts};
-ghost use Rattle.std.specs.String.{string_bytes};
 ghost use Rattle.hc_term.specs.declared.run.Stop.{Stop};
 ghost use Rattle.hc_reply.specs.Sinks.{PutsWhole};
 ghost use Rattle.hc_cmd.specs.Refusals.{refused};
-ghost use Rattle.hc_cmd.specs.Replies.{Answers, Replies, status_at};
+ghost use Rattle.hc_cmd.specs.Replies.{Simulates, status_at};
 
 use crate::refusal::Refusal;
-use crate::words::{Request, asked_for};
+use hc_ast::Tree;
 use hc_frac::Frac;
 use hc_history::write_whole;
-use hc_parse::parse;
 use hc_plain::{CanonicalRun, canonical_run};
 use hc_small::{SmallStop, small_system};
 use hc_term::{Stop, System, Task};
-use hc_world::{Failed, ReadStop, Sink, Source, read_all};
+use hc_world::{Failed, Sink};
 use std::alloc::Global;
 
-/// The most bytes of a source.
-const LONGEST_SOURCE: usize = 1_048_576;
 /// The horizon, in time units, where the words give none.
 const HORIZON: i64 = 100;
 /// The number of steps to which a run is limited, where the words give none.
@@ -35,20 +31,15 @@ pub struct Simulation {
 }
 
 impl Simulation {
-    ghost use Rattle.hc_cmd.specs.Simulations.{reply_to, IsReady};
+    ghost use Rattle.hc_cmd.specs.Prepared.{simulation_reply, IsSimulated};
 
-    /// The simulation of a text, or why there is none.
-    fn of_text(alloc: Global, text: &[u8]) -> Result<Simulation, Refusal>
-        requires { length text.now ≤ 1048576 }
+    /// The simulation of a source, or why there is none.
+    pub(crate) fn of_tree(alloc: Global, tree: &Tree) -> Result<Simulation, Refusal>
         ensures { MatchResult result
-            (λ s. IsReady s × Answers text.now (reply_to s))
-            (λ r. (refused r ≡ refused Refusal.Memory) ⊎ Answers text.now (refused r)) }
+            (λ s. IsSimulated s × Simulates tree.now (simulation_reply s))
+            (λ r. (refused r ≡ refused Refusal.Memory) ⊎ Simulates tree.now (refused r)) }
     {
-        let tree = match parse(alloc, text) {
-            Ok(tree) => tree,
-            Err(stop) => return Err(Refusal::Unparsed(stop)),
-        };
-        let system = match small_system(alloc, &tree) {
+        let system = match small_system(alloc, tree) {
             Ok(system) => system,
             Err(SmallStop::NotSmall) => return Err(Refusal::NotBuilt),
             Err(SmallStop::Memory) => return Err(Refusal::Memory),
@@ -60,32 +51,10 @@ impl Simulation {
         }
     }
 
-    /// Reads the source as the words ask, and simulates it, or tells why nothing is to be written.
-    pub(crate) fn of_words<S: Source>(
-        alloc: Global,
-        words: &Vec<String>,
-        source: &mut S,
-    ) -> Result<Simulation, Refusal>
-        ensures { MatchResult result
-            (λ s. IsReady s × Replies S.left S.faults (map string_bytes words.now.items) source.old source.new (reply_to s))
-            (λ r. Replies S.left S.faults (map string_bytes words.now.items) source.old source.new (refused r)) }
-    {
-        let Some(Request::Simulate) = asked_for(words) else {
-            return Err(Refusal::Usage);
-        };
-        let text = match read_all(alloc, source, LONGEST_SOURCE) {
-            Ok(text) => text,
-            Err(ReadStop::Failed) => return Err(Refusal::Unread),
-            Err(ReadStop::TooLong) => return Err(Refusal::TooLong),
-            Err(ReadStop::Memory) => return Err(Refusal::Memory),
-        };
-        Simulation::of_text(alloc, text.as_slice())
-    }
-
     /// Writes the whole text of the run. It takes no memory.
     pub(crate) fn write<O: Sink>(&self, out: &mut O) -> Result<(), Failed>
-        requires { IsReady self.now }
-        ensures { PutsWhole O.told O.faults out.old out.new result (reply_to self.now).out }
+        requires { IsSimulated self.now }
+        ensures { PutsWhole O.told O.faults out.old out.new result (simulation_reply self.now).out }
     {
         write_whole(
             &self.task.system,
@@ -98,8 +67,8 @@ impl Simulation {
 
     /// The status of the run by its stop.
     pub(crate) fn status(&self) -> u8
-        requires { IsReady self.now }
-        ensures { result ≡ (reply_to self.now).status }
+        requires { IsSimulated self.now }
+        ensures { result ≡ (simulation_reply self.now).status }
     {
         status_of_stop(self.run.stop)
     }

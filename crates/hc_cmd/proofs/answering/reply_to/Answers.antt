@@ -1,20 +1,22 @@
 use Rattle.std.proofs.Common.{◌≡◌, refl, sym, subst, ◌∙◌, List, ℕ, []}
 use Rattle.hc_reply.specs.Sinks.{IsWhole, IsCut, whole, out_failed, err_failed}
 use Rattle.hc_cmd.specs.Refusals.{refused}
-use Rattle.hc_cmd.specs.Simulations.{reply_to}
-use Rattle.hc_cmd.proofs.Replying.{untouched}
+use Rattle.hc_cmd.specs.Prepared.{reply_to}
+use Rattle.hc_cmd.proofs.Replying.{untouched, no_error}
 use Rattle.hc_cmd.proofs.answering.reply_to.Goals as goal
 
 pub returns-in-Ok-write : goal.returns-in-Ok-write
 returns-in-Ok-write g c = (
-  reply_to c.in-Ok.simulation,
+  reply_to c.in-Ok.prepared,
   (c.in-Ok.ensures {u = tt}).1,
-  whole c.status.ensures (c.in-Ok-write.ensures {u = tt}) (untouched g.E.Sink.told g.E.Sink.faults c.args.err.now),
+  whole c.status.ensures (c.in-Ok-write.ensures {u = tt})
+      (subst (λ (text : List ℕ). IsWhole g.E.Sink.told g.E.Sink.faults c.args.err.now c.args.err.now text) (no_error c.in-Ok.prepared)
+      (untouched g.E.Sink.told g.E.Sink.faults c.args.err.now)),
 )
 
 pub returns-in-Ok : goal.returns-in-Ok
 returns-in-Ok g c =
-    (reply_to c.in-Ok.simulation, (c.in-Ok.ensures {u = tt}).1, out_failed refl (c.in-Err-write.ensures {u = tt}) refl)
+    (reply_to c.in-Ok.prepared, (c.in-Ok.ensures {u = tt}).1, out_failed refl (c.in-Err-write.ensures {u = tt}) refl)
 
 pub returns-in-Ok-tell : goal.returns-in-Ok-tell
 returns-in-Ok-tell g c = (
