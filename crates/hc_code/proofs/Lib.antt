@@ -1,0 +1,8 @@
+pub mod SameNumbers
+pub mod Sums
+pub mod Growing
+pub mod Ways
+pub mod Steps
+pub mod Heads
+pub mod Arms
+pub mod Whole

@@ -1,0 +1,3 @@
+pub mod Stands
+pub mod Kept
+pub mod Pieces
