@@ -2,7 +2,11 @@
 #![tactic(auto)]
 
 #[cfg(test)]
+mod expanding;
+#[cfg(test)]
 mod limits;
+#[cfg(test)]
+mod printing;
 #[cfg(test)]
 mod reading;
 #[cfg(test)]

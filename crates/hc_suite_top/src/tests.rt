@@ -39,9 +39,21 @@ fn expect_reply(
     faults: &Faults,
     wanted: &Wanted,
 ) -> Result<(), Fail> {
+    expect_call(rt, alloc, "simulate", text, faults, wanted)
+}
+
+/// Does the action with the text, and compares the status and what stands on output and error.
+fn expect_call(
+    rt: &impl Abort,
+    alloc: Global,
+    action: &str,
+    text: &[u8],
+    faults: &Faults,
+    wanted: &Wanted,
+) -> Result<(), Fail> {
     let mut words = Vec::new(alloc);
     words.push(String::from_str(alloc, "hcsp")?)?;
-    words.push(String::from_str(alloc, "simulate")?)?;
+    words.push(String::from_str(alloc, action)?)?;
     let bytes = Vec::from_slice(alloc, text)?;
     let mut source = MemSource::open(bytes, 4096, Vec::from_slice(alloc, faults.source)?);
     let mut out = MemSink::open(alloc, 4096, Vec::from_slice(alloc, faults.out)?)?;
@@ -154,6 +166,60 @@ fn other_texts_are_refused(rt: HostRuntime) -> Result<(), Fail> {
             err,
         };
         expect_reply(&rt, rt.alloc(), text.as_bytes(), &NONE, &wanted)?;
+    }
+    Ok(())
+}
+
+#[test]
+fn sources_are_printed(rt: HostRuntime) -> Result<(), Fail> {
+    let rows = [
+        (
+            "system P=(skip;x:=1.50)endsystem",
+            "system\nP = ( skip ;\nx := 1.50 ) endsystem\n",
+        ),
+        (
+            "module M(ch c):begin c!(1+2)*3 end endmodule system P=M(a)||Q=(a?x)endsystem",
+            "module M ( ch c ) : begin\nc ! ( 1 + 2 ) * 3 end\nendmodule\nsystem\nP = M ( a ) || Q = ( a ? x ) endsystem\n",
+        ),
+    ];
+    for (text, out) in rows {
+        let wanted = Wanted {
+            status: 0,
+            out,
+            err: "",
+        };
+        expect_call(&rt, rt.alloc(), "print", text.as_bytes(), &NONE, &wanted)?;
+    }
+    let refused = Wanted {
+        status: 1,
+        out: "",
+        err: "hcsp: 1:13: syntax\n",
+    };
+    expect_call(&rt, rt.alloc(), "print", b"system P = (", &NONE, &refused)
+}
+
+#[test]
+fn a_fault_of_output_cuts_the_spelling(rt: HostRuntime) -> Result<(), Fail> {
+    let whole = "system\nP = ( skip ) endsystem\n";
+    for (failing, out) in [(0, ""), (1, whole)] {
+        let faults = Faults {
+            source: &[],
+            out: &[failing],
+            err: &[],
+        };
+        let wanted = Wanted {
+            status: 4,
+            out,
+            err: "",
+        };
+        expect_call(
+            &rt,
+            rt.alloc(),
+            "print",
+            b"system P = (skip) endsystem",
+            &faults,
+            &wanted,
+        )?;
     }
     Ok(())
 }
