@@ -1,0 +1,4 @@
+pub mod Command
+pub mod Digits
+pub mod Defaults
+pub mod Asking
