@@ -6,3 +6,7 @@ pub mod Rights
 pub mod Uses
 pub mod Steps
 pub mod Options
+pub mod Choices
+pub mod Passing
+pub mod Values
+pub mod InOrder
