@@ -1,7 +1,7 @@
 -- Choices in a row: clap's walk leads through their words, and finds a row for each.
-use Rattle.std.proofs.Common.{◌≡◌, refl, ap, ap₂, sym, subst, ◌∙◌, ℕ, zero, suc, ◌==◌, Bool, true, false, not, ◌&&◌, ◌||◌, List, [], ◌∷◌, ◌++◌, map, length, Option, Some, None, cond, if◌then◌else◌, arith, append_assoc, IsTrue}
+use Rattle.std.proofs.Common.{◌≡◌, refl, ap, sym, subst, ◌∙◌, ℕ, Bool, true, false, not, List, [], ◌∷◌, ◌++◌, map, Some, None, if◌then◌else◌, append_assoc}
 use Rattle.std.specs.Prelude.{flat_map, fold}
-use Rattle.std.specs.List.{All, list_all, list_any}
+use Rattle.std.specs.List.{All, list_all}
 use Rattle.std.specs.Str.{bytes_eq}
 use Rattle.std.proofs.lemmas.Bool.{and_from, and_parts}
 use Rattle.std.proofs.lemmas.List.{append-nil}
@@ -33,9 +33,6 @@ passes_on s w after word rest turn is behind =
     and_from _ _ turn (ap (λ (v : Walk). walk_passes s [] v rest) is ∙ behind)
 
 -- ---- the words of a choice
-
-flag_of : Setting → Text
-flag_of k = 45 ∷ 45 ∷ name_of k
 
 long_alone : (k : Setting) → long_of (45 ∷ 45 ∷ name_of k) ≡ Some (name_of k, None)
 long_alone seed = refl
@@ -149,4 +146,4 @@ module _ (s : Shape) (rule : Setting → Rule) (options : (k : Setting) → IsOp
       let first = choice_leads s rule options c h rows n (All-head (λ (d : Choice). BeginsPlain d.value) c cs plain) reached (not_true _ here.0) in
       let rest = choices_lead cs first.place (rows ++ row_of_choice c ∷ []) n (All-tail (λ (d : Choice). BeginsPlain d.value) c cs plain) first.reached (still_new rows c cs here.1 others.0) others.1 in
       subst (λ (more : List Row). Leads s h n (words_of c ++ flat_map words_of cs) more) (append_assoc rows (row_of_choice c ∷ []) (map row_of_choice cs))
-          (both_lead s h n (words_of c) (flat_map words_of cs) _ _ first rest)
+      (both_lead s h n (words_of c) (flat_map words_of cs) _ _ first rest)

@@ -1,5 +1,5 @@
 -- A command with one more argument; what the command line's parse says.
-use Rattle.std.proofs.Common.{◌≡◌, ap, ap₂, sym, ◌∙◌, ◌==◌, true, false, refl, List, [], ◌∷◌, length, IsTrue, ◌⊎◌, inl, inr, subst}
+use Rattle.std.proofs.Common.{◌≡◌, ap, ap₂, sym, ◌∙◌, true, false, refl, List, [], ◌∷◌, IsTrue, ◌⊎◌, inl, inr, subst}
 use Rattle.clap.specs.declared.builder.arg.Arg.{Arg}
 use Rattle.clap.specs.declared.builder.command.Command.{Command}
 use Rattle.clap.specs.declared.parser.matches.ArgMatches.{ArgMatches}

@@ -1,14 +1,13 @@
 -- Words in order: clap takes them, and they ask for something.
-use Rattle.std.proofs.Common.{◌≡◌, refl, ap, ap₂, sym, subst, ◌∙◌, ℕ, zero, suc, ◌==◌, ◌⊎◌, inl, inr, Bool, true, false, not, ◌&&◌, ◌||◌, List, [], ◌∷◌, ◌++◌, map, Option, Some, None, slice_get, IsTrue}
-use Rattle.std.specs.Prelude.{codes, flat_map, is_some, pos}
-use Rattle.std.specs.List.{All, list_all}
+use Rattle.std.proofs.Common.{◌≡◌, refl, ap, sym, subst, ◌∙◌, ℕ, ◌==◌, inl, inr, true, false, not, List, [], ◌∷◌, ◌++◌, map, Option, Some, None, slice_get, IsTrue}
+use Rattle.std.specs.Prelude.{codes, flat_map, pos}
+use Rattle.std.specs.List.{All}
 use Rattle.std.specs.Str.{bytes_eq}
 use Rattle.std.proofs.lemmas.Bool.{and_from}
 use Rattle.std.proofs.lemmas.List.Elements.{All-weaker, All-nil}
-use Rattle.clap.specs.Walk.{Row, Text, first_of, has_row}
-use Rattle.clap.specs.Simple.{matches_of}
+use Rattle.clap.specs.Walk.{Text, has_row}
 use Rattle.clap.specs.Takes.{takes}
-use Rattle.hc_rational.specs.Words.{Rational, is_positive}
+use Rattle.hc_rational.specs.Words.{Rational}
 use Rattle.hc_rational.specs.Rational.{whole}
 use Rattle.hc_words.specs.declared.requests.Request.{Request}
 use Rattle.hc_words.specs.declared.requests.Request.TheVariants.{Check, Print, Simulate}
@@ -37,8 +36,8 @@ module _ (x : ℕ) (v : Text) (e : (x == 45) ≡ false) (cs : List Choice) (righ
   led : Leads shape (acting (x ∷ v)) 2 (flat_map words_of cs) (action_row (x ∷ v) ∷ map row_of_choice cs)
   led =
       choices_lead shape rule_at is_option cs (acting (x ∷ v)) (action_row (x ∷ v) ∷ []) 2
-          (All-weaker (λ (c : Choice). IsRight c.setting c.value) (λ (c : Choice). BeginsPlain c.value) (λ c h. right_plain c.setting c.value h) cs right)
-          (action_reached (x ∷ v)) (not_action cs (x ∷ v)) apart
+      (All-weaker (λ (c : Choice). IsRight c.setting c.value) (λ (c : Choice). BeginsPlain c.value) (λ c h. right_plain c.setting c.value h) cs right)
+      (action_reached (x ∷ v)) (not_action cs (x ∷ v)) apart
 
   pub action_taken : (name : Text) → takes hcsp (name ∷ (x ∷ v) ∷ flat_map words_of cs) ≡ true
   action_taken name = led_taken name x v (flat_map words_of cs) _ e led
@@ -91,9 +90,10 @@ settings_found : (action : Text) (cs : List Choice) → All (λ c. IsRight c.set
 settings_found action cs right =
     let first = seed_found _ (all_right seed cs (report_row ∷ []) right refl) in
     let second = horizon_found _ (all_right horizon cs (report_row ∷ []) right refl) in
-    let third = limit_found _ (all_right limit cs (report_row ∷ []) right refl) in
-    (record { seed = first.0; horizon = second.0; limit = third.0 },
-     record { plain = plain_found action cs; seed = first.1; horizon = second.1; limit = third.1 })
+    let third = limit_found _ (all_right limit cs (report_row ∷ []) right refl) in (
+      record { seed = first.0; horizon = second.0; limit = third.0 },
+      record { plain = plain_found action cs; seed = first.1; horizon = second.1; limit = third.1 },
+    )
 
 -- ---- words in order
 
@@ -142,7 +142,7 @@ in_order_asks words (bare name action (inr which) is) =
 in_order_asks words (simulation name choices apart right is) =
     let s = settings_found (codes "simulate") choices right in
     asks_of name (codes "simulate") (flat_map words_of choices) words _ (Simulate s.0) is
-        (action_given 115 (codes "imulate") refl choices right apart name) (refl, s.1)
+    (action_given 115 (codes "imulate") refl choices right apart name) (refl, s.1)
 
 -- words in order ask for something
 pub in_order_asked : (words : List Text) → AreInOrder words → (action : Text) × (slice_get words 1 ≡ Some action) × ((r : Request) × AskFor action (given words) r)

@@ -1,13 +1,12 @@
 -- The options of a simulation are options of the command.
-use Rattle.std.proofs.Common.{◌≡◌, refl, ap, sym, ◌∙◌, ℕ, Bool, true, false, not, ◌&&◌, ◌||◌, List, [], ◌∷◌, ◌++◌, Option, Some, None, cond, if◌then◌else◌}
+use Rattle.std.proofs.Common.{refl}
 use Rattle.std.specs.Prelude.{codes}
-use Rattle.clap.specs.Walk.{Text, Row, Rule, has_row, used}
-use Rattle.clap.specs.Simple.{Shape, App, built, filled}
-use Rattle.clap.specs.Takes.{use_passes}
+use Rattle.clap.specs.Walk.{Rule}
+use Rattle.clap.specs.Simple.{Shape, built, filled}
 use Rattle.clap.proofs.OnLiterals.{clap_on_literals}
 use Rattle.hc_words.specs.Line.{hcsp, option_rule}
 use Rattle.hc_words.specs.Order.{Setting, seed, horizon, limit, name_of}
-use Rattle.hc_words.proofs.Uses.{row_for, first_use}
+use Rattle.hc_words.proofs.Uses.{first_use}
 use Rattle.hc_words.proofs.Steps.{IsOption}
 
 -- the command, as it is built
@@ -22,7 +21,12 @@ rule_at k = filled (option_rule (name_of k))
 pub seed_is_option : IsOption shape (codes "seed") (rule_at seed)
 unfolding shape rule_at hcsp clap_on_literals
 seed_is_option = record {
-  by_long = refl; by_id = refl; takes = refl; id = refl; same = refl; most = refl;
+  by_long = refl;
+  by_id = refl;
+  takes = refl;
+  id = refl;
+  same = refl;
+  most = refl;
   passes = λ v rows none. rw none refl;
   uses = λ v rows none. first_use (codes "seed") v rows none;
 }
@@ -30,7 +34,12 @@ seed_is_option = record {
 pub horizon_is_option : IsOption shape (codes "horizon") (rule_at horizon)
 unfolding shape rule_at hcsp clap_on_literals
 horizon_is_option = record {
-  by_long = refl; by_id = refl; takes = refl; id = refl; same = refl; most = refl;
+  by_long = refl;
+  by_id = refl;
+  takes = refl;
+  id = refl;
+  same = refl;
+  most = refl;
   passes = λ v rows none. rw none refl;
   uses = λ v rows none. first_use (codes "horizon") v rows none;
 }
@@ -38,7 +47,12 @@ horizon_is_option = record {
 pub limit_is_option : IsOption shape (codes "limit") (rule_at limit)
 unfolding shape rule_at hcsp clap_on_literals
 limit_is_option = record {
-  by_long = refl; by_id = refl; takes = refl; id = refl; same = refl; most = refl;
+  by_long = refl;
+  by_id = refl;
+  takes = refl;
+  id = refl;
+  same = refl;
+  most = refl;
   passes = λ v rows none. rw none refl;
   uses = λ v rows none. first_use (codes "limit") v rows none;
 }

@@ -1,13 +1,12 @@
 -- An action and choices behind it: clap takes them.
-use Rattle.std.proofs.Common.{◌≡◌, refl, ap, ap₂, sym, subst, ◌∙◌, ℕ, zero, suc, ◌==◌, Bool, true, false, not, ◌&&◌, ◌||◌, List, [], ◌∷◌, ◌++◌, map, drop, take, length, Option, Some, None, cond, if◌then◌else◌, arith, append_assoc, IsTrue}
-use Rattle.std.specs.Prelude.{codes, flat_map, fold}
-use Rattle.std.specs.List.{All, list_all, list_any}
-use Rattle.std.specs.Str.{bytes_eq}
-use Rattle.std.proofs.lemmas.Bool.{and_from, and_parts}
+use Rattle.std.proofs.Common.{◌≡◌, refl, ap, subst, ◌∙◌, ℕ, ◌==◌, true, false, List, [], ◌∷◌, Some}
+use Rattle.std.specs.Prelude.{codes, fold}
+use Rattle.std.specs.List.{list_all}
+use Rattle.std.proofs.lemmas.Bool.{and_from}
 use Rattle.std.proofs.lemmas.List.{append-nil}
-use Rattle.clap.specs.Walk.{Held, Row, Rule, Step, Text, Walk, idle, value, after_step, finished, has_row, nothing_held, walk, walk_from, walked}
-use Rattle.clap.specs.Simple.{argument_words, built, is_simple}
-use Rattle.clap.specs.Takes.{built_takes, default_passes, is_valid, level_passes, other_passes, settle_passes, step_passes, takes, turn_passes, walk_passes}
+use Rattle.clap.specs.Walk.{Held, Row, Step, Text, Walk, idle, value, after_step, finished, nothing_held, walk, walk_from, walked}
+use Rattle.clap.specs.Simple.{argument_words, built}
+use Rattle.clap.specs.Takes.{built_takes, default_passes, is_valid, level_passes, settle_passes, step_passes, takes, turn_passes, walk_passes}
 use Rattle.clap.proofs.OnLiterals.{clap_on_literals}
 use Rattle.clap.proofs.TakesLemmas.{leaf_takes}
 use Rattle.hc_words.specs.Line.{hcsp}
@@ -41,8 +40,8 @@ placed_passes = refl
 
 action_passes : (x : ℕ) (v : Text) → (x == 45) ≡ false → turn_passes shape [] (walk_from nothing_held) (x ∷ v) ≡ true
 action_passes x v e =
-    and_from _ _ (plain_passes shape 1 x v nothing_held e)
-        (ap (λ (m : Held × Step). step_passes shape 1 m.0 m.1) (plain_met shape.rules idle 1 x v nothing_held e) ∙ placed_passes)
+    and_from _ _ (plain_passes shape x v nothing_held e)
+    (ap (λ (m : Held × Step). step_passes shape 1 m.0 m.1) (plain_met shape.rules idle 1 x v nothing_held e) ∙ placed_passes)
 
 pub action_reached : (action : Text) → Reached shape (acting action) (action_row action ∷ [])
 unfolding shape hcsp clap_on_literals
@@ -70,8 +69,8 @@ level : (words : List Text) (place : Held) (n : ℕ) → walk shape.rules [] not
     settle_passes shape.rules shape.args_override_self place ≡ true → level_passes shape [] nothing_held words false ≡ true
 level words place n walks passes settles =
     and_from _ _ passes
-        (and_from _ _ (ap (λ (w : Walk). settle_passes shape.rules shape.args_override_self w.held) walks ∙ settles)
-        (and_from _ _ defaults_pass (always_valid (finished shape.rules (walk shape.rules [] nothing_held words).held))))
+    (and_from _ _ (ap (λ (w : Walk). settle_passes shape.rules shape.args_override_self w.held) walks ∙ settles)
+    (and_from _ _ defaults_pass (always_valid (finished shape.rules (walk shape.rules [] nothing_held words).held))))
 
 taken_by_level : (name : Text) (words : List Text) → level_passes shape [] nothing_held words false ≡ true → takes hcsp (name ∷ words) ≡ true
 unfolding shape
@@ -92,10 +91,10 @@ all_passes : (x : ℕ) (v : Text) (words : List Text) (rows : List Row) → (x =
     walk_passes shape [] (walk_from nothing_held) ((x ∷ v) ∷ words) ≡ true
 all_passes x v words rows e led =
     passes_on shape (walk_from nothing_held) (standing (acting (x ∷ v)) idle 2) (x ∷ v) words (action_passes x v e) (action_walked x v e)
-        (subst (λ ws. walk_passes shape [] (standing (acting (x ∷ v)) idle 2) ws ≡ true) (append-nil words) (led.passes [] (nothing_passes led.place)))
+    (subst (λ ws. walk_passes shape [] (standing (acting (x ∷ v)) idle 2) ws ≡ true) (append-nil words) (led.passes [] (nothing_passes led.place)))
 
 pub led_taken : (name : Text) (x : ℕ) (v : Text) (words : List Text) (rows : List Row) → (x == 45) ≡ false → Leads shape (acting (x ∷ v)) 2 words rows →
     takes hcsp (name ∷ (x ∷ v) ∷ words) ≡ true
 led_taken name x v words rows e led =
     taken_by_level name ((x ∷ v) ∷ words)
-        (level ((x ∷ v) ∷ words) led.place 2 (all_walked x v words rows e led) (all_passes x v words rows e led) led.reached.settles)
+    (level ((x ∷ v) ∷ words) led.place 2 (all_walked x v words rows e led) (all_passes x v words rows e led) led.reached.settles)

@@ -1,11 +1,11 @@
 -- A value that is right isn't empty, and doesn't begin with `-`.
-use Rattle.std.proofs.Common.{rules, ◌≡◌, ◌<◌, ◌≤◌, ◌^◌, ◌==◌, refl, ap, sym, subst, ◌∙◌, ℕ, ℤ, pos, negsuc, Bool, true, false, ◌&&◌, nat_le, List, [], ◌∷◌, ◌++◌, length, get_or, Option, Some, None, IsTrue, arith, cond, if◌then◌else◌, suc, zero}
+use Rattle.std.proofs.Common.{rules, ◌≡◌, ◌<◌, ◌^◌, ◌==◌, refl, ap, subst, ℕ, ℤ, pos, negsuc, Bool, true, false, ◌&&◌, nat_le, List, [], ◌∷◌, ◌++◌, length, get_or, Some, None, arith, if◌then◌else◌, suc, zero}
 use Rattle.std.specs.Prelude.{int_lt, unsigned_abs, decimal}
 use Rattle.std.specs.Fmt.{signed_decimal}
 use Rattle.std.specs.Char.{is_ascii_digit}
 use Rattle.std.specs.List.{list_all}
 use Rattle.std.specs.Str.Parse.{digits_value}
-use Rattle.std.proofs.lemmas.Bool.{and_parts, leb-true}
+use Rattle.std.proofs.lemmas.Bool.{and_parts}
 use Rattle.std.proofs.lemmas.Fmt.{first_decimal}
 use Rattle.clap.specs.Walk.{Text}
 use Rattle.hc_rational.specs.Words.{Rational, is_positive, IsFrac}
@@ -13,7 +13,7 @@ use Rattle.hc_rational.proofs.FitsLaws.{num_fits}
 use Rattle.hc_frac.specs.Text.{text_of}
 use Rattle.hc_token.specs.declared.token.Token.{Token}
 use Rattle.hc_token.specs.Tokens.{tokens_of}
-use Rattle.hc_words.specs.Numbers.{is_digits, in_decimal, number_within, IsFractionText, IsDecimalText, fraction, decimal as of_decimal}
+use Rattle.hc_words.specs.Numbers.{is_digits, in_decimal, number_within, IsFractionText, fraction, decimal as of_decimal}
 use Rattle.hc_words.specs.Order.{Setting, seed, horizon, limit, IsRight}
 
 -- the text isn't empty, and doesn't begin with `-`

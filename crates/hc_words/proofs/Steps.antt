@@ -1,9 +1,9 @@
 -- One word, or two, of an option with its value: where the walk stands behind it, and that it passes.
-use Rattle.std.proofs.Common.{◌≡◌, refl, ap, ap₂, sym, subst, ◌∙◌, ℕ, ◌==◌, Bool, true, false, not, ◌&&◌, ◌||◌, List, [], ◌∷◌, ◌++◌, Option, Some, None, cond, if◌then◌else◌, arith}
+use Rattle.std.proofs.Common.{◌≡◌, refl, ap, ◌∙◌, ℕ, ◌==◌, true, false, List, [], ◌∷◌, ◌++◌, Some, None}
 use Rattle.std.specs.Str.{bytes_eq}
 use Rattle.std.proofs.lemmas.Bool.{and_from}
-use Rattle.clap.specs.Lexer.{long_of, short_of}
-use Rattle.clap.specs.Walk.{Held, Row, Rule, Step, Text, Waiting, Walk, idle, option, positional, value, after_step, arg_by_id, arg_by_long, arg_by_index, takes_values, most_values, is_multiple, has_row, used, settled, settled_rows, reacted, plain_word, word_met, walked}
+use Rattle.clap.specs.Lexer.{long_of}
+use Rattle.clap.specs.Walk.{Held, Row, Rule, Step, Text, Waiting, Walk, idle, option, positional, after_step, arg_by_id, arg_by_long, takes_values, most_values, has_row, used, settled, settled_rows, reacted, plain_word, word_met, walked}
 use Rattle.clap.specs.Simple.{Shape}
 use Rattle.clap.specs.Takes.{other_passes, settle_passes, step_passes, use_passes, turn_passes}
 use Rattle.hc_words.proofs.Uses.{row_for}
@@ -36,8 +36,8 @@ plain_met c (option id) n x v h e = simp e
 plain_met c positional n x v h e = simp e
 
 -- such a word passes where it is read
-pub plain_passes : (s : Shape) (n x : ℕ) (v : Text) (h : Held) → (x == 45) ≡ false → other_passes s None (x ∷ v) h ≡ true
-plain_passes s n x v h e = simp e
+pub plain_passes : (s : Shape) (x : ℕ) (v : Text) (h : Held) → (x == 45) ≡ false → other_passes s None (x ∷ v) h ≡ true
+plain_passes s x v h e = simp e
 
 -- ---- `--name=value`
 
@@ -83,14 +83,14 @@ module _ (s : Shape) (name : Text) (a : Rule) (o : IsOption s name a) (h : Held)
   unfolding walked
   valued_walked x v e =
       let value_taken : after_step s.rules (x ∷ v) (standing named (option name) n) (plain_word s.rules (option name) (x ∷ v) named).0 (plain_word s.rules (option name) (x ∷ v) named).1
-          ≡ standing (valued (x ∷ v)) idle n = rw (o.by_id, o.same, o.most) refl in
+      ≡ standing (valued (x ∷ v)) idle n = rw (o.by_id, o.same, o.most) refl in
       ap (λ (m : Held × Step). after_step s.rules (x ∷ v) (standing named (option name) n) m.0 m.1) (plain_met s.rules (option name) n x v named e) ∙ value_taken
 
   pub valued_passes : (x : ℕ) (v : Text) → (x == 45) ≡ false →
       turn_passes s [] (standing named (option name) n) (x ∷ v) ≡ true
   valued_passes x v e =
-      and_from _ _ (plain_passes s n x v named e)
-          (ap (λ (m : Held × Step). step_passes s n m.0 m.1) (plain_met s.rules (option name) n x v named e))
+      and_from _ _ (plain_passes s x v named e)
+      (ap (λ (m : Held × Step). step_passes s n m.0 m.1) (plain_met s.rules (option name) n x v named e))
 
   pub valued_reached : (v : Text) → Reached s (valued v) (rows ++ row_for name v ∷ [])
   valued_reached v = record {

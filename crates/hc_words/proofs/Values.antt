@@ -1,5 +1,5 @@
 -- An action and choices behind it: the matches are the values of the choices.
-use Rattle.std.proofs.Common.{◌≡◌, refl, ap, ap₂, sym, subst, ◌∙◌, ℕ, zero, suc, ◌==◌, Bool, true, false, not, ◌&&◌, ◌||◌, List, [], ◌∷◌, ◌++◌, map, drop, take, length, Option, Some, None, cond, if◌then◌else◌, arith, append_assoc, IsTrue}
+use Rattle.std.proofs.Common.{◌≡◌, refl, ap, sym, subst, ◌∙◌, ℕ, ◌==◌, Bool, true, false, List, [], ◌∷◌, ◌++◌, map, drop, take, Option, Some, None, if◌then◌else◌}
 use Rattle.std.specs.Prelude.{codes, fold}
 use Rattle.std.specs.List.{All, list_all}
 use Rattle.std.specs.Str.{bytes_eq}
@@ -8,13 +8,13 @@ use Rattle.std.proofs.lemmas.List.Elements.{All-head, All-tail}
 use Rattle.std.proofs.lemmas.Grind.{fold-append}
 use Rattle.clap.specs.declared.builder.value_parser.Reading.TheVariants as reading
 use Rattle.clap.specs.declared.parser.matches.ValueSource.TheVariants.{DefaultValue}
-use Rattle.clap.specs.Walk.{Held, Row, Rule, Text, Walk, idle, default_rows, finished, first_of, has_row, is_empty, nothing_held, reading_by, settled, walk, with_default}
-use Rattle.clap.specs.Simple.{built, filled, matches_of, names_of, argument_words}
+use Rattle.clap.specs.Walk.{Held, Row, Rule, Text, Walk, default_rows, finished, first_of, has_row, nothing_held, reading_by, walk, with_default}
+use Rattle.clap.specs.Simple.{built, filled, matches_of, names_of}
 use Rattle.clap.proofs.OnLiterals.{clap_on_literals}
 use Rattle.hc_words.specs.Line.{hcsp, flag_rule}
 use Rattle.hc_words.specs.Order.{Setting, seed, horizon, limit, name_of, Choice, IsRight}
 use Rattle.hc_words.proofs.Uses.{row_for, first_values}
-use Rattle.hc_words.proofs.Steps.{Reached, standing}
+use Rattle.hc_words.proofs.Steps.{Reached}
 use Rattle.hc_words.proofs.Choices.{Leads, row_of_choice}
 use Rattle.hc_words.proofs.Options.{shape}
 use Rattle.hc_words.proofs.Passing.{acting, action_row, all_walked}
@@ -98,9 +98,6 @@ led_matches name x v words rows e led none =
 
 -- ---- the values of choices
 
-other_than : (id : Text) → Type 0
-other_than id = (k : Setting) → bytes_eq (name_of k) id ≡ false
-
 no_row_of : (id : Text) → ((k : Setting) → bytes_eq (name_of k) id ≡ false) → (cs : List Choice) → has_row id (map row_of_choice cs) ≡ false
 no_row_of id other [] = refl
 no_row_of id other (c ∷ cs) = rw (other c.setting) (no_row_of id other cs)
@@ -132,7 +129,7 @@ pub all_right : (k : Setting) (cs : List Choice) (tail : List Row) → All (λ c
 all_right k [] tail right none = subst (IsRightIn k) (sym none) tt
 all_right k (c ∷ cs) tail right none =
     one_right k c.setting c.value (map row_of_choice cs ++ tail) (All-head (λ (d : Choice). IsRight d.setting d.value) c cs right)
-        (all_right k cs tail (All-tail (λ (d : Choice). IsRight d.setting d.value) c cs right) none)
+    (all_right k cs tail (All-tail (λ (d : Choice). IsRight d.setting d.value) c cs right) none)
 
 pub not_report : (k : Setting) → bytes_eq (name_of k) (codes "report") ≡ false
 not_report seed = refl

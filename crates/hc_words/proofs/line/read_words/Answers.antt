@@ -1,4 +1,4 @@
-use Rattle.std.proofs.Common.{rules, ◌≡◌, ◌∙◌, ap, map}
+use Rattle.std.proofs.Common.{◌∙◌, ap, map}
 use Rattle.std.specs.String.{string_bytes}
 use Rattle.hc_words.proofs.Command.{taken_of, given_of, refused_of, passes_of}
 use Rattle.hc_words.proofs.line.read_words.Goals as goal

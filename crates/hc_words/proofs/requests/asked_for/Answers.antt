@@ -1,4 +1,4 @@
-use Rattle.std.proofs.Common.{rules, ◌≡◌}
+use Rattle.std.proofs.Common.{rules}
 use Rattle.std.specs.String.{string_bytes}
 use Rattle.hc_words.specs.Seen.{seen}
 use Rattle.hc_words.proofs.Asking.{ask, not_asked, not_asked_for, second_word, too_few, may_run}
@@ -9,13 +9,13 @@ pub returns-in-Some-clause-asked : goal.returns-in-Some-clause-asked
 returns-in-Some-clause-asked c =
     let named = second_word string_bytes c.args.words.now.items c.as_slice.result.now c.action-item.result c.as_slice.ensures.value c.in-len2-up.len_at_least c.action-item.is in
     ask _ (string_bytes c.action-item.result) c.as_str.result.now _ c.in-Some.request named (c.in_ok-given.ensures {u = tt}).taken c.as_str.ensures.value
-        (c.in_ok-given.ensures {u = tt}).given (c.in-Some.ensures {u = tt}).some
+    (c.in_ok-given.ensures {u = tt}).given (c.in-Some.ensures {u = tt}).some
 
 pub returns-in-None-clause-usage : goal.returns-in-None-clause-usage
 returns-in-None-clause-usage c = λ e.
     let named = second_word string_bytes c.args.words.now.items c.as_slice.result.now c.action-item.result c.as_slice.ensures.value c.in-len2-up.len_at_least c.action-item.is in
     not_asked _ (string_bytes c.action-item.result) c.as_str.result.now _ named c.as_str.ensures.value (c.in_ok-given.ensures {u = tt}).given
-        (c.request_by.ensures.none c.in-None.is)
+    (c.request_by.ensures.none c.in-None.is)
 
 pub returns-in-Some-clause-proper : goal.returns-in-Some-clause-proper
 returns-in-Some-clause-proper c = may_run c.as_str.result.now (seen c.in_ok-given.given) c.in-Some.request (c.in-Some.ensures {u = tt}).some
@@ -32,4 +32,4 @@ returns-in-None-clause-in_order c = λ e order.
     let named = second_word string_bytes c.args.words.now.items c.as_slice.result.now c.action-item.result c.as_slice.ensures.value c.in-len2-up.len_at_least c.action-item.is in
     let asks = in_order_asked _ order in
     not_asked_for _ (string_bytes c.action-item.result) c.as_str.result.now asks.0 _ named c.as_str.ensures.value (c.in_ok-given.ensures {u = tt}).given
-        (c.request_by.ensures.none c.in-None.is) asks.1 asks.2.0 asks.2.1
+    (c.request_by.ensures.none c.in-None.is) asks.1 asks.2.0 asks.2.1
