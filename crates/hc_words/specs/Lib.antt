@@ -1,0 +1,5 @@
+pub mod Line
+pub mod Numbers
+pub mod Requests
+pub mod Seen
+pub mod Order

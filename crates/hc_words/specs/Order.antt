@@ -1,0 +1,49 @@
+-- Words in order: an action, and behind it options of its own.
+use Rattle.std.specs.Prelude.{◌≡◌, ◌⊎◌, ℕ, Bool, true, not, ◌&&◌, List, [], ◌∷◌, ◌++◌, flat_map, Some, codes, IsTrue, if◌then◌else◌}
+use Rattle.std.specs.List.{All, list_all}
+use Rattle.std.specs.Str.{bytes_eq}
+use Rattle.clap.specs.Walk.{Text}
+use Rattle.hc_rational.specs.Words.{Rational, is_positive}
+use Rattle.hc_words.specs.Numbers.{number_within, IsFractionText}
+
+-- an option of a simulation
+pub data Setting : Type 0 where
+  seed : Setting
+  horizon : Setting
+  limit : Setting
+
+abbrev pub name_of : Setting → Text
+name_of seed = codes "seed"
+name_of horizon = codes "horizon"
+name_of limit = codes "limit"
+
+-- an option with its value: `--name=value`, or `--name value`
+pub record Choice : Type 0 where
+  pub setting : Setting
+  pub is_joined : Bool
+  pub value : Text
+
+abbrev pub words_of : Choice → List Text
+words_of c =
+    let flag = 45 ∷ 45 ∷ name_of c.setting in
+    if c.is_joined then (flag ++ 61 ∷ c.value) ∷ [] else flag ∷ c.value ∷ []
+
+-- the value is in form and in range; so it isn't empty, and doesn't begin with `-`
+abbrev pub IsRight : Setting → Text → Type 0
+IsRight seed t = (n : ℕ) × (number_within 0 18446744073709551615 t ≡ Some n)
+IsRight horizon t = (q : Rational) × IsFractionText t q × IsTrue (is_positive q)
+IsRight limit t = (n : ℕ) × (number_within 1 1000000 t ≡ Some n)
+
+abbrev pub is_other : Choice → Choice → Bool
+is_other c d = not (bytes_eq (name_of c.setting) (name_of d.setting))
+
+-- each option at most once
+abbrev pub are_apart : List Choice → Bool
+are_apart [] = true
+are_apart (c ∷ cs) = list_all (is_other c) cs && are_apart cs
+
+-- the program's name, and an action with what belongs to it, in any order
+pub data AreInOrder (words : List Text) : Type 0 where
+  bare : (name action : Text) → (action ≡ codes "check") ⊎ (action ≡ codes "print") → words ≡ name ∷ action ∷ [] → AreInOrder words
+  simulation : (name : Text) (choices : List Choice) → IsTrue (are_apart choices) → All (λ c. IsRight c.setting c.value) choices →
+      words ≡ name ∷ codes "simulate" ∷ flat_map words_of choices → AreInOrder words

@@ -1,0 +1,8 @@
+//! The words of a call: what they ask for, or that they ask for nothing there is.
+#![tactic(auto)]
+
+mod line;
+mod numbers;
+mod requests;
+
+pub use requests::{Request, Settings, WordsStop, asked_for};

@@ -1,0 +1,172 @@
+//! What the words ask for.
+
+ghost use Rattle.std.specs.Prelude.{◌≡◌, pos, None, map, IfOk, IfSome, IsErrOf, option_map};
+ghost use Rattle.std.specs.String.{string_bytes};
+ghost use Rattle.hc_rational.specs.Rational.{whole};
+ghost use Rattle.hc_rational.specs.Words.{Rational};
+ghost use Rattle.hc_words.specs.Order.{AreInOrder};
+ghost use Rattle.hc_words.specs.Requests as spec;
+ghost use Rattle.hc_words.specs.Seen.{seen};
+ghost use Rattle.hc_words.specs.declared.requests.Request as asked;
+ghost use Rattle.hc_words.specs.declared.requests.Settings as set;
+
+use crate::line::{Given, read_words};
+use crate::numbers::{number_within, positive_fraction};
+use hc_frac::Frac;
+use std::alloc::Global;
+
+/// The horizon, in time units, where the words give none.
+const HORIZON: i64 = 100;
+/// The number of steps to which a run is limited, where the words give none.
+const LIMIT: u32 = 10_000;
+/// The most steps to which a run may be limited.
+const MOST_STEPS: u64 = 1_000_000;
+
+/// The settings of a simulation.
+#[derive(Clone, Copy, Debug, PartialEq, Eq)]
+pub struct Settings {
+    /// Its bits decide the internal choices.
+    pub seed: u64,
+    /// In time units, positive.
+    pub horizon: Frac,
+    /// Steps, 1 to 1,000,000.
+    pub limit: u32,
+}
+
+/// What the words ask for.
+#[derive(Clone, Copy, Debug, PartialEq, Eq)]
+pub enum Request {
+    /// To check the source that is read, and tell its size.
+    Check,
+    /// To write the canonical spelling of the source that is read.
+    Print,
+    /// To simulate the source that is read.
+    Simulate(Settings),
+}
+
+/// Why the words ask for nothing.
+#[derive(Clone, Copy, Debug, PartialEq, Eq)]
+pub enum WordsStop {
+    /// They aren't the words of any request.
+    Usage,
+    /// Memory ran out.
+    Memory,
+}
+
+/// What these words ask for, of which the first is the program's name.
+pub fn asked_for(alloc: Global, words: &Vec<String>) -> Result<Request, WordsStop>
+    ensures asked { IfOk result (spec.Ask (map string_bytes words.now.items)) }
+    ensures proper { IfOk result spec.MayRun }
+    ensures usage { IsErrOf result WordsStop.Usage → (r : asked.Request) → spec.Ask (map string_bytes words.now.items) r → ⊥ }
+    ensures in_order { IsErrOf result WordsStop.Usage → AreInOrder (map string_bytes words.now.items) → ⊥ }
+{
+    let given = read_words(alloc, words)?;
+    match words.as_slice() {
+        [_, action, ..] => match request_by(action.as_str(), &given) {
+            Some(request) => Ok(request),
+            None => Err(WordsStop::Usage),
+        },
+        _ => Err(WordsStop::Usage),
+    }
+}
+
+/// What an action asks for, with what stands behind it.
+fn request_by(action: &str, given: &Given<'_>) -> Option<Request>
+    ensures some { IfSome result (spec.AskFor action.now (seen given.now)) }
+    ensures none { result ≡ None → (r : asked.Request) → spec.AskFor action.now (seen given.now) r → ⊥ }
+{
+    if action == "check" && is_bare(given) {
+        return Some(Request::Check);
+    }
+    if action == "print" && is_bare(given) {
+        return Some(Request::Print);
+    }
+    if action == "simulate" {
+        let settings = settings_of(given)?;
+        return Some(Request::Simulate(settings));
+    }
+    None
+}
+
+fn is_silent(flag: Option<&str>) -> bool
+    ensures { result ≡ spec.is_silent (option_map (λ s. s.now) flag.entry) }
+{
+    match flag {
+        Some(text) => text != "true",
+        None => true,
+    }
+}
+
+fn is_plain(given: &Given<'_>) -> bool
+    ensures { result ≡ spec.is_plain (seen given.now) }
+{
+    given.number.is_none()
+        && given.workers.is_none()
+        && given.steps.is_none()
+        && is_silent(given.reports)
+}
+
+fn is_bare(given: &Given<'_>) -> bool
+    ensures { result ≡ spec.is_bare (seen given.now) }
+{
+    is_plain(given) && given.seed.is_none() && given.horizon.is_none() && given.limit.is_none()
+}
+
+/// The settings that are given, each where it isn't its own default.
+fn settings_of(given: &Given<'_>) -> Option<Settings>
+    ensures some { IfSome result (spec.AreSettings (seen given.now)) }
+    ensures none { result ≡ None → (s : set.Settings) → spec.AreSettings (seen given.now) s → ⊥ }
+{
+    if !is_plain(given) {
+        return None;
+    }
+    let seed = seed_of(given.seed)?;
+    let horizon = horizon_of(given.horizon)?;
+    let limit = limit_of(given.limit)?;
+    Some(Settings {
+        seed,
+        horizon,
+        limit,
+    })
+}
+
+fn seed_of(text: Option<&str>) -> Option<u64>
+    ensures { result ≡ spec.seed_in (option_map (λ s. s.now) text.entry) }
+{
+    match text {
+        Some(text) => number_within(0, u64::MAX, text),
+        None => Some(0),
+    }
+}
+
+fn limit_of(text: Option<&str>) -> Option<u32>
+    ensures { result ≡ spec.limit_in (option_map (λ s. s.now) text.entry) }
+{
+    match text {
+        Some(text) => match number_within(1, MOST_STEPS, text) {
+            Some(limit) => Some(limit as u32),
+            None => None,
+        },
+        None => Some(LIMIT),
+    }
+}
+
+/// The horizon where the words give none.
+fn default_horizon() -> Frac
+    ensures { result ≡ whole (pos 100) }
+{
+    match Frac::new(HORIZON, 1) {
+        Some(horizon) => horizon,
+        None => unreachable!(),
+    }
+}
+
+fn horizon_of(text: Option<&str>) -> Option<Frac>
+    ensures some { IfSome result (spec.IsHorizon (option_map (λ s. s.now) text.entry)) }
+    ensures none { result ≡ None → (q : Rational) → spec.IsHorizon (option_map (λ s. s.now) text.entry) q → ⊥ }
+{
+    match text {
+        Some(text) => positive_fraction(text),
+        None => Some(default_horizon()),
+    }
+}
