@@ -1,0 +1,3 @@
+pub mod Numbered
+pub mod Numberings
+pub mod Checked
