@@ -1,1 +1,5 @@
 pub mod Positions
+pub mod Clean
+pub mod Numbers
+pub mod EachLists
+pub mod ExprInduction
