@@ -4,3 +4,7 @@ pub mod InEitherOrder
 pub mod FirstNamed
 pub mod Within
 pub mod FromRefusals
+pub mod Clean
+pub mod Numbers
+pub mod EachLists
+pub mod ExprInduction
