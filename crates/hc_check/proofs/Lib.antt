@@ -8,3 +8,8 @@ pub mod Clean
 pub mod Numbers
 pub mod EachLists
 pub mod ExprInduction
+pub mod OverForms
+pub mod SameNodes
+pub mod SameStatements
+pub mod SameSizes
+pub mod NamesApart

@@ -5,7 +5,9 @@ ghost use Rattle.hc_finds.specs.Names.{number_in};
 ghost use Rattle.hc_check.specs.Numbered as spec;
 ghost use Rattle.hc_check.specs.Numberings.{IsSmall};
 
-use hc_ast::{BranchTree, CondKind, CondTree, ExprKind, ExprTree, IoTree, RateTree, StmtKind, StmtTree};
+use hc_ast::{
+    BranchTree, CondKind, CondTree, ExprKind, ExprTree, IoTree, RateTree, StmtKind, StmtTree,
+};
 use hc_frac::Name;
 use hc_list::{Boxed, List};
 use hc_term::{Branch, Comparison, Cond, Expr, Io, Op, Rate, Stmt};
@@ -48,7 +50,11 @@ fn comparison_of(how: hc_ast::Comparison) -> Comparison
 }
 
 /// An expression over these variables.
-fn number_expr(alloc: Global, variables: &IndexSet<Name>, expr: &ExprTree) -> Result<Expr, AllocError>
+fn number_expr(
+    alloc: Global,
+    variables: &IndexSet<Name>,
+    expr: &ExprTree,
+) -> Result<Expr, AllocError>
     requires { length variables.now.keys < 2 ^ 32 }
     ensures { IfOk result (λ e. e ≡ spec.expr_over variables.now.keys expr.now) }
 {
@@ -62,13 +68,21 @@ fn number_expr(alloc: Global, variables: &IndexSet<Name>, expr: &ExprTree) -> Re
         ExprKind::Binary(op, left, right) => {
             let left = number_expr(alloc, variables, left.get())?;
             let right = number_expr(alloc, variables, right.get())?;
-            Ok(Expr::Binary(op_of(*op), Boxed::new(alloc, left)?, Boxed::new(alloc, right)?))
+            Ok(Expr::Binary(
+                op_of(*op),
+                Boxed::new(alloc, left)?,
+                Boxed::new(alloc, right)?,
+            ))
         }
     }
 }
 
 /// A condition over these variables.
-fn number_cond(alloc: Global, variables: &IndexSet<Name>, cond: &CondTree) -> Result<Cond, AllocError>
+fn number_cond(
+    alloc: Global,
+    variables: &IndexSet<Name>,
+    cond: &CondTree,
+) -> Result<Cond, AllocError>
     requires { length variables.now.keys < 2 ^ 32 }
     ensures { IfOk result (λ c. c ≡ spec.cond_over variables.now.keys cond.now) }
 {
@@ -78,7 +92,11 @@ fn number_cond(alloc: Global, variables: &IndexSet<Name>, cond: &CondTree) -> Re
         CondKind::Compare(how, left, right) => {
             let left = number_expr(alloc, variables, left.get())?;
             let right = number_expr(alloc, variables, right.get())?;
-            Ok(Cond::Compare(comparison_of(*how), Boxed::new(alloc, left)?, Boxed::new(alloc, right)?))
+            Ok(Cond::Compare(
+                comparison_of(*how),
+                Boxed::new(alloc, left)?,
+                Boxed::new(alloc, right)?,
+            ))
         }
         CondKind::Not(part) => {
             let part = number_cond(alloc, variables, part.get())?;
