@@ -12,7 +12,8 @@ use Rattle.hc_finds.specs.Limits.{channels_in, variables_in, guards_beyond, node
 use Rattle.hc_finds.specs.Uses.{uses_of}
 use Rattle.hc_finds.specs.Refusals.{all_parts, bad_ends, refusals}
 use Rattle.hc_check.proofs.Clean.{is_named, IsClean}
-use Rattle.hc_check.proofs.Eachwise.{each-found, each-all}
+use Rattle.hc_check.proofs.EachLists.{each_flat}
+use Rattle.hc_check.proofs.Eachwise.{each-all}
 use Rattle.hc_check.proofs.InEitherOrder.{in_either_order}
 use Rattle.hc_check.proofs.FirstNamed.{all_named}
 use Rattle.hc_check.proofs.Within.{few_guards, few_nodes, process_within, rest_within, channels_over, variables_over}
@@ -47,7 +48,7 @@ module _ (ps : List FlatProcess) (none : refusals ps ≡ []) where
 
   lawful : (r : Rule) → Each (λ p. Each (λ x. breaks r x ≡ []) (parts_of false p.body)) ps
   lawful r =
-      each-found (λ x. breaks r x ≡ []) (λ p. parts_of false p.body) ps
+      each_flat (λ x. breaks r x ≡ []) (λ p. parts_of false p.body) ps
       (each_empty (breaks r) (all_parts ps) (unmapped_empty (refused_by r) (flat_map (breaks r) (all_parts ps)) (kept_rule r)))
 
   pub few_channels : length (channels_of ps) ≤ 256
@@ -71,8 +72,8 @@ clean_processes : (cs before : List Word) (ps : List FlatProcess) → Each (λ p
 clean_processes cs before [] named lawful e = tt
 clean_processes cs before (p ∷ ps) named lawful e = (
   clean_parts cs (variables_of p) (limited_parts p)
-      (each-found (λ c. IsTrue (is_named cs c)) channels_in (limited_parts p) named.0)
-      (each-found (λ v. IsTrue (is_named (variables_of p) v)) variables_in (limited_parts p) (all_named (variables_named p)))
+      (each_flat (λ c. IsTrue (is_named cs c)) channels_in (limited_parts p) named.0)
+      (each_flat (λ v. IsTrue (is_named (variables_of p) v)) variables_in (limited_parts p) (all_named (variables_named p)))
       (few_guards before [] (limited_parts p) (process_within before p ps e))
       (few_nodes before [] (limited_parts p) (process_within before p ps e))
       (each-all (λ r x. breaks r x ≡ []) (limited_parts p)
@@ -83,5 +84,5 @@ clean_processes cs before (p ∷ ps) named lawful e = (
 pub clean : (ps : List FlatProcess) → refusals ps ≡ [] → Each (λ p. Each (IsClean (channels_of ps) (variables_of p)) (parts_of true p.body)) ps
 clean ps none =
     clean_processes (channels_of ps) [] ps
-    (each-found (λ c. IsTrue (is_named (channels_of ps) c)) channels_named ps (all_named (flat_map channels_named ps)))
+    (each_flat (λ c. IsTrue (is_named (channels_of ps) c)) channels_named ps (all_named (flat_map channels_named ps)))
     (lawful ps none) (all_within ps none)

@@ -13,7 +13,8 @@ use Rattle.hc_ast.specs.declared.stmt.BranchTree.{BranchTree, out-BranchTree}
 use Rattle.hc_modules.proofs.Induction.{Each, EachElse, EachBehind, Steps, by_induction}
 use Rattle.hc_finds.specs.Parts.{Part, assign, compute, test, communicate, domain, guard, guards_from, rates_from, guard_of, parts, parts_of}
 use Rattle.hc_finds.proofs.PartForms.{parts-if, parts-else, parts-pick, parts-forever, parts-choice, parts-evolve, parts-tested, parts-loop, guard-is}
-use Rattle.hc_check.proofs.Eachwise.{each-append, each-left, each-right, each-same}
+use Rattle.hc_check.proofs.EachLists.{each_both}
+use Rattle.hc_check.proofs.Eachwise.{each-append, each-same}
 
 -- the parts of the simple forms
 module _ (tf : Bool) (s : StmtTree) where
@@ -48,8 +49,8 @@ module _ (P : Part → Type 0) where
   turn : (f g : Bool) (ss : List StmtTree) → Each Turns ss → Each P (parts_of f ss) → Each P (parts_of g ss)
   turn f g [] ts h = tt
   turn f g (s ∷ ss) ts h =
-      each-append P (parts g s) (parts_of g ss) (ts.0 f g (each-left P (parts f s) (parts_of f ss) h))
-      (turn f g ss ts.1 (each-right P (parts f s) (parts_of f ss) h))
+      each-append P (parts g s) (parts_of g ss) (ts.0 f g (each_both P (parts f s) (parts_of f ss) h).0)
+      (turn f g ss ts.1 (each_both P (parts f s) (parts_of f ss) h).1)
 
   turn_branches : (f g : Bool) (rates : List RateTree) (earlier : List IoTree) (bs : List BranchTree) → Each (EachBehind Turns) bs
       → Each P (guards_from rates earlier (map (guard_of f) bs)) → Each P (guards_from rates earlier (map (guard_of g) bs))
@@ -61,8 +62,8 @@ module _ (P : Part → Type 0) where
       each-same P _ _ (sym (guards-cons g rates earlier b bs)) (
         old.0,
         each-append P (parts_of g ss) (guards_from rates later (map (guard_of g) bs))
-            (turn f g ss ts.0 (each-left P (parts_of f ss) (guards_from rates later (map (guard_of f) bs)) old.1))
-            (turn_branches f g rates later bs ts.1 (each-right P (parts_of f ss) (guards_from rates later (map (guard_of f) bs)) old.1)),
+            (turn f g ss ts.0 (each_both P (parts_of f ss) (guards_from rates later (map (guard_of f) bs)) old.1).0)
+            (turn_branches f g rates later bs ts.1 (each_both P (parts_of f ss) (guards_from rates later (map (guard_of f) bs)) old.1).1),
       )
 
   -- one list of parts in both orders
@@ -74,21 +75,21 @@ module _ (P : Part → Type 0) where
   turn_if s c ss None e ts us f g h =
       let old = each-same P _ _ (parts-if f s c ss e) h in
       each-same P _ _ (sym (parts-if g s c ss e))
-      (old.0, each-append P (parts_of g ss) [] (turn f g ss ts (each-left P (parts_of f ss) [] old.1)) tt)
+      (old.0, each-append P (parts_of g ss) [] (turn f g ss ts (each_both P (parts_of f ss) [] old.1).0) tt)
   turn_if s c ss (Some rs) e ts us f g h =
       let old = each-same P _ _ (parts-else f s c ss rs e) h in
       each-same P _ _ (sym (parts-else g s c ss rs e)) (
         old.0,
-        each-append P (parts_of g ss) (parts_of g rs) (turn f g ss ts (each-left P (parts_of f ss) (parts_of f rs) old.1))
-            (turn f g rs us (each-right P (parts_of f ss) (parts_of f rs) old.1)),
+        each-append P (parts_of g ss) (parts_of g rs) (turn f g ss ts (each_both P (parts_of f ss) (parts_of f rs) old.1).0)
+            (turn f g rs us (each_both P (parts_of f ss) (parts_of f rs) old.1).1),
       )
 
   turn_pick : (s : StmtTree) (ss rs : List StmtTree) → s.kind ≡ seen.Pick ss rs → Each Turns ss → Each Turns rs → Turns s
   turn_pick s ss rs e ts us f g h =
       let old = each-same P _ _ (parts-pick f s ss rs e) h in
       each-same P _ _ (sym (parts-pick g s ss rs e))
-      (each-append P (parts_of g ss) (parts_of g rs) (turn f g ss ts (each-left P (parts_of f ss) (parts_of f rs) old))
-      (turn f g rs us (each-right P (parts_of f ss) (parts_of f rs) old)))
+      (each-append P (parts_of g ss) (parts_of g rs) (turn f g ss ts (each_both P (parts_of f ss) (parts_of f rs) old).0)
+      (turn f g rs us (each_both P (parts_of f ss) (parts_of f rs) old).1))
 
   turn_forever : (s : StmtTree) (ss : List StmtTree) → s.kind ≡ seen.Forever ss → Each Turns ss → Turns s
   turn_forever s ss e ts f g h =
@@ -101,8 +102,7 @@ module _ (P : Part → Type 0) where
   apart : (s : StmtTree) (c : CondTree) (ss : List StmtTree) → s.kind ≡ seen.Loop c ss → (f : Bool) → Each P (parts f s) → Looped s c ss f
   apart s c ss e true h = let old = each-same P _ _ (parts-tested true s c ss e refl) h in (old.0, old.1)
   apart s c ss e false h =
-      let old = each-same P _ _ (parts-loop false s c ss e refl) h in
-      ((each-right P (parts_of false ss) (test s.place c ∷ []) old).0, each-left P (parts_of false ss) (test s.place c ∷ []) old)
+      let old = each_both P (parts_of false ss) (test s.place c ∷ []) (each-same P _ _ (parts-loop false s c ss e refl) h) in (old.1.0, old.0)
 
   together : (s : StmtTree) (c : CondTree) (ss : List StmtTree) → s.kind ≡ seen.Loop c ss → (f : Bool) → Looped s c ss f → Each P (parts f s)
   together s c ss e true h = each-same P _ _ (sym (parts-tested true s c ss e refl)) (h.0, h.1)
@@ -123,11 +123,11 @@ module _ (P : Part → Type 0) where
   turn_evolve s rs c bs e ts f g h =
       let old = each-same P _ _ (parts-evolve f s rs c bs e) h in
       let rates = rates_from rs [] rs in
-      let behind = each-right P rates (domain rs s.place c ∷ guards_from rs [] (map (guard_of f) bs)) old in
+      let both = each_both P rates (domain rs s.place c ∷ guards_from rs [] (map (guard_of f) bs)) old in
       each-same P _ _ (sym (parts-evolve g s rs c bs e))
       (each-append P rates (domain rs s.place c ∷ guards_from rs [] (map (guard_of g) bs))
-      (each-left P rates (domain rs s.place c ∷ guards_from rs [] (map (guard_of f) bs)) old)
-      (behind.0, turn_branches f g rs [] bs ts behind.1))
+      both.0
+      (both.1.0, turn_branches f g rs [] bs ts both.1.1))
 
   turns : Steps Turns
   turns = record {

@@ -4,6 +4,7 @@ pub mod InEitherOrder
 pub mod FirstNamed
 pub mod Within
 pub mod FromRefusals
+pub mod SameUses
 pub mod Clean
 pub mod Numbers
 pub mod EachLists

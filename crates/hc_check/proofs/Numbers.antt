@@ -25,7 +25,7 @@ pub below : (names : List Word) (x : Word) → IsTrue (is_named names x) → num
 below names x h = first_below (same_word x) names h
 
 -- the name at a number
-at_number : (names : List Word) (x : Word) → number_in names x < length names → x ≡ get_or names (number_in names x) []
+pub at_number : (names : List Word) (x : Word) → number_in names x < length names → x ≡ get_or names (number_in names x) []
 at_number names x h =
     same_text x (get_or names (number_in names x) []) (negated (same_word x (get_or names (number_in names x) [])) (prefix_len_stops (λ y. not (same_word x y)) names [] h))
   where
