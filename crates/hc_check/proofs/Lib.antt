@@ -5,6 +5,8 @@ pub mod FirstNamed
 pub mod Within
 pub mod FromRefusals
 pub mod SameUses
+pub mod GoodEnds
+pub mod Joined
 pub mod Clean
 pub mod Numbers
 pub mod EachLists
