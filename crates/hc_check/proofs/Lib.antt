@@ -7,6 +7,7 @@ pub mod FromRefusals
 pub mod SameUses
 pub mod GoodEnds
 pub mod Joined
+pub mod Kept
 pub mod Clean
 pub mod Numbers
 pub mod EachLists
