@@ -3,3 +3,5 @@ pub mod Clean
 pub mod Numbers
 pub mod EachLists
 pub mod ExprInduction
+pub mod NumberedForms
+pub mod TermForms
