@@ -5,3 +5,5 @@ pub mod EachLists
 pub mod ExprInduction
 pub mod NumberedForms
 pub mod TermForms
+pub mod SourceForms
+pub mod NumberedSizes
