@@ -7,3 +7,4 @@ pub mod NumberedForms
 pub mod TermForms
 pub mod SourceForms
 pub mod NumberedSizes
+pub mod NumberedLines
