@@ -8,3 +8,4 @@ pub mod TermForms
 pub mod SourceForms
 pub mod NumberedSizes
 pub mod NumberedLines
+pub mod RuledExprs
