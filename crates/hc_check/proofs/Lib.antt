@@ -9,3 +9,5 @@ pub mod SourceForms
 pub mod NumberedSizes
 pub mod NumberedLines
 pub mod RuledExprs
+pub mod Apart
+pub mod PartFacts

@@ -52,7 +52,7 @@ ten_power (suc k) = omega (arith, ten_power k)
 
 -- ---- what evolves
 
-nothing_there : (b : Bool) (p : Place) → only_if b p ≡ [] → b ≡ false
+pub nothing_there : (b : Bool) (p : Place) → only_if b p ≡ [] → b ≡ false
 nothing_there false p h = refl
 nothing_there true p h = absurd (cc)
 
