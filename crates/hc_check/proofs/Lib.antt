@@ -17,3 +17,11 @@ pub mod SameNodes
 pub mod SameStatements
 pub mod SameSizes
 pub mod NamesApart
+pub mod NumberedForms
+pub mod TermForms
+pub mod SourceForms
+pub mod NumberedSizes
+pub mod NumberedLines
+pub mod RuledExprs
+pub mod Apart
+pub mod PartFacts

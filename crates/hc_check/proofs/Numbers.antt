@@ -1,5 +1,6 @@
 -- The number of a name that is there: it is below the count, and names of one number are the same.
-use Rattle.std.proofs.Common.{◌≡◌, ◌∙◌, refl, sym, subst, ap, ℕ, ◌+◌, ◌<◌, not, ◌||◌, cond, Bool, true, false, IsTrue, List, [], ◌∷◌, length, get_or, arith}
+use Rattle.std.proofs.Common.{◌≡◌, ◌∙◌, refl, sym, subst, ap, ℕ, ◌+◌, ◌<◌, not, ◌||◌, ◌==◌, cond, Bool, true, false, IsTrue, List, [], ◌∷◌, length, get_or, arith}
+use Rattle.std.proofs.lemmas.Bool.Decides.{Decides-eqb}
 use Rattle.std.proofs.lemmas.Cmp.{nat_list_eq_equiv}
 use Rattle.std.proofs.lemmas.List.Sums.{prefix_len_stops}
 use Rattle.std.specs.List.{list_any, position_or_len}
@@ -41,3 +42,18 @@ same_names names x y h e =
 
 pub one_name : (names : List Word) (x y : Word) → IsTrue (is_named names x) → number_in names x ≡ number_in names y → IsTrue (same_word x y)
 one_name names x y h e = subst (λ (z : Word). IsTrue (same_word x z)) (same_names names x y h e) (nat_list_eq_equiv.refl x)
+
+-- numbers are equal exactly where the names are the same
+pub number_same : (names : List Word) (x y : Word) → IsTrue (is_named names y) → (number_in names x == number_in names y) ≡ same_word x y
+number_same names x y h = by (same_word x y) refl
+  where
+    apart : (b : Bool) → (number_in names x == number_in names y) ≡ b → same_word x y ≡ false → (number_in names x == number_in names y) ≡ false
+    apart false f e = f
+    apart true f e =
+        let equal : number_in names x ≡ number_in names y = (Decides-eqb (number_in names x) (number_in names y)).0 f in
+        let one : y ≡ x = same_names names y x h (sym equal) in
+        let same : same_word x y ≡ true = subst (λ (z : Word). same_word z y ≡ true) one (nat_list_eq_equiv.refl y) in
+        absurd (cc (same, e))
+    by : (b : Bool) → same_word x y ≡ b → (number_in names x == number_in names y) ≡ same_word x y
+    by true e = (Decides-eqb (number_in names x) (number_in names y)).1 (ap (number_in names) (same_text x y (sym e))) ∙ sym e
+    by false e = apart (number_in names x == number_in names y) refl e ∙ sym e
