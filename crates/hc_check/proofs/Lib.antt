@@ -11,3 +11,5 @@ pub mod NumberedLines
 pub mod RuledExprs
 pub mod Apart
 pub mod PartFacts
+pub mod RuledRates
+pub mod RuledGuards
