@@ -13,3 +13,5 @@ pub mod Apart
 pub mod PartFacts
 pub mod RuledRates
 pub mod RuledGuards
+pub mod StatementForms
+pub mod RuledEvolutions
