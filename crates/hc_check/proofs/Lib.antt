@@ -15,3 +15,4 @@ pub mod RuledRates
 pub mod RuledGuards
 pub mod StatementForms
 pub mod RuledEvolutions
+pub mod RuledStatements
