@@ -25,3 +25,8 @@ pub mod NumberedLines
 pub mod RuledExprs
 pub mod Apart
 pub mod PartFacts
+pub mod RuledRates
+pub mod RuledGuards
+pub mod StatementForms
+pub mod RuledEvolutions
+pub mod RuledStatements

@@ -1,6 +1,6 @@
 -- What is known of the expressions of a part against which nothing is found.
-use Rattle.std.proofs.Common.{◌≡◌, refl, ap, sym, ◌∙◌, ℕ, ◌≤◌, nat_lt, Bool, true, false, ◌&&◌, IsTrue, List, [], ◌∷◌, length, flat_map, arith}
-use Rattle.std.proofs.lemmas.Bool.{lt-ltb}
+use Rattle.std.proofs.Common.{◌≡◌, refl, ap, sym, ◌∙◌, ℕ, ◌+◌, ◌≤◌, nat_lt, nat_le, Bool, true, false, ◌&&◌, IsTrue, List, [], ◌∷◌, length, flat_map, arith}
+use Rattle.std.proofs.lemmas.Bool.{lt-ltb, le-leb}
 use Rattle.std.proofs.lemmas.Bool.Decides.{nat_tests}
 use Rattle.hc_frac.specs.declared.place.Place.{Place}
 use Rattle.hc_ast.specs.Bare.{Word}
@@ -52,10 +52,10 @@ module _ (cs xs : List Word) where
   number_passes names x h = lt-ltb (number_in names x) (length names) (below names x h)
 
   pub assign_ruled : (p : Place) (x : Word) (e : ExprTree) → IsClean cs xs (assign p x e)
-      → (IsTrue (nat_lt (number_in xs x) (length xs))) × IsTrue (is_expr (length xs) (expr_over xs e))
+      → IsTrue (nat_le (number_in xs x + 1) (length xs) && is_expr (length xs) (expr_over xs e))
   assign_ruled p x e h =
       let plain = exprs_plain (assign p x e) h (h.variables.1, tt) in
-      (number_passes xs x h.variables.0, expr_ruled xs e plain.0 (exprs_small (assign p x e) h).0)
+      both (le-leb _ _ (omega (arith, below xs x h.variables.0))) (expr_ruled xs e plain.0 (exprs_small (assign p x e) h).0)
 
   pub compute_ruled : (p : Place) (e : ExprTree) → IsClean cs xs (compute p e) → IsTrue (is_expr (length xs) (expr_over xs e))
   compute_ruled p e h =

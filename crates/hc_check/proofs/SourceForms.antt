@@ -14,7 +14,7 @@ use Rattle.hc_ast.specs.declared.expr.CondKind.TheViews as test
 use Rattle.hc_ast.specs.declared.expr.CondTree.{CondTree}
 use Rattle.hc_modules.specs.Finds.{only_if}
 use Rattle.hc_modules.specs.Sizes.{nodes, cond_nodes}
-use Rattle.hc_finds.specs.Exprs.{words_in, odd_divisors, nought_divisors, is_nought, is_among, moves_of}
+use Rattle.hc_finds.specs.Exprs.{Named, names_in, words_in, odd_divisors, nought_divisors, is_nought, is_among, moves_of}
 
 module _ (e : ExprTree) where
   module _ (d : Decimal) (is : e.kind ≡ plain.Number d) where
@@ -33,6 +33,9 @@ module _ (e : ExprTree) where
   module _ (x : Word) (is : e.kind ≡ plain.Name x) where
     pub nodes-name : nodes e ≡ 1
     nodes-name = search (rules, kinds.the_lemmas)
+
+    pub names-name : names_in e ≡ (let n : Named = record { place = e.place; word = x } in n) ∷ []
+    names-name = search (rules, kinds.the_lemmas)
 
     pub words-name : words_in e ≡ x ∷ []
     words-name = search (rules, kinds.the_lemmas)
