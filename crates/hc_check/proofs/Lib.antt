@@ -25,3 +25,5 @@ pub mod NumberedLines
 pub mod RuledExprs
 pub mod Apart
 pub mod PartFacts
+pub mod SameSystem
+pub mod InStep
