@@ -30,3 +30,5 @@ pub mod RuledGuards
 pub mod StatementForms
 pub mod RuledEvolutions
 pub mod RuledStatements
+pub mod SameSystem
+pub mod InStep
