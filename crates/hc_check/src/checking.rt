@@ -71,8 +71,25 @@ fn number_processes(
     Ok(found)
 }
 
+/// The system of an expanded source against which nothing is found, over its names.
+fn system_of(alloc: Global, flat: &Flat, limited: &Limited) -> Result<System, AllocError>
+    requires flat { IsFlat flat.now }
+    requires nothing_found { refusals flat.now.processes ≡ [] }
+    requires channels { limited.now.channels.keys ≡ channels_of flat.now.processes }
+    requires variables { map (λ s. s.keys) limited.now.variables ≡ map variables_of flat.now.processes }
+    ensures { IfOk result (IsChecked flat.now) }
+{
+    let processes = number_processes(alloc, limited, flat.processes.as_slice())?;
+    let channels = listed(alloc, &limited.channels)?;
+    match System::new(processes, channels) {
+        Some(system) => Ok(system),
+        None => unreachable!(),
+    }
+}
+
 /// The system of an expanded source, or its first refusal: of the first phase that finds something, what it finds
 /// first in the text.
+#[tactic(auto, using(crate::proofs::SameSystem::one_system))]
 pub fn check(alloc: Global, flat: &Flat) -> Result<System, CheckStop>
     requires { IsFlat flat.now }
 
@@ -84,12 +101,7 @@ pub fn check(alloc: Global, flat: &Flat) -> Result<System, CheckStop>
     ensures every_system { (sys : Numbered) → IsChecked flat.now sys → IsSystemOrMemory sys result }
     ensures every_refusal { (stop : Stop) → IsRefused flat.now stop → IsStopOrMemory stop result }
 {
-    let processes = flat.processes.as_slice();
-    let limited = unrefused(alloc, processes)?;
-    let channels = listed(alloc, &limited.channels)?;
-    let numbered = number_processes(alloc, &limited, processes)?;
-    match System::new(numbered, channels) {
-        Some(system) => Ok(system),
-        None => unreachable!(),
-    }
+    let limited = unrefused(alloc, flat.processes.as_slice())?;
+    let system = system_of(alloc, flat, &limited)?;
+    Ok(system)
 }
