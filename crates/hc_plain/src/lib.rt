@@ -6,8 +6,10 @@ mod delay;
 mod exchange;
 mod meetings;
 mod passing;
+mod plain;
 mod run;
 mod state;
 mod turn;
 
+pub use plain::is_plain_system;
 pub use run::{CanonicalRun, canonical_run};

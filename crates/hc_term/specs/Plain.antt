@@ -1,4 +1,4 @@
--- The statements of the small form: those that mention numbers, channels and variables alone, one after the other.
+-- Plain statements: those that mention numbers, channels and variables alone, one after the other.
 use Rattle.std.specs.Prelude.{Bool, true, false, List}
 use Rattle.std.specs.List.{list_all}
 use Rattle.hc_term.specs.declared.expr.Expr.{Expr, out-Expr}
