@@ -1,17 +1,14 @@
 -- No two elements of a list are alike, where each differs from those before it.
-use Rattle.std.proofs.Common.{◌≡◌, refl, ap, sym, ◌∙◌, Bool, true, false, not, ◌||◌, IsTrue, List, [], ◌∷◌, ◌++◌, map}
+use Rattle.std.proofs.Common.{◌≡◌, refl, ap, ◌∙◌, Bool, true, false, not, ◌||◌, IsTrue, List, [], ◌∷◌, ◌++◌, map}
 use Rattle.std.specs.List.{list_any}
 use Rattle.std.proofs.lemmas.List.Folds.{list_any-append}
 use Rattle.hc_modules.proofs.Induction.{Each}
 use Rattle.hc_term.specs.Profile.{all_apart}
-use Rattle.hc_check.proofs.EachLists.{both}
+use Rattle.hc_check.proofs.EachLists.{both, neither}
 
 or_true : (b : Bool) → (b || true) ≡ true
 or_true true = refl
 or_true false = refl
-
-neither : {a b : Bool} → a ≡ false → b ≡ false → (a || b) ≡ false
-neither e f = cc
 
 -- each differs from those before it, behind others
 abbrev pub Differ : {X : Type 0} → (X → X → Bool) → List X → List X → Type 0

@@ -1,5 +1,5 @@
 -- What each element of a list has, for lists that are made of others.
-use Rattle.std.proofs.Common.{◌≡◌, refl, ap, sym, subst, ◌∙◌, Bool, true, false, ◌&&◌, IsTrue, List, [], ◌∷◌, ◌++◌, map, flat_map}
+use Rattle.std.proofs.Common.{◌≡◌, refl, Bool, true, false, ◌&&◌, ◌||◌, IsTrue, List, [], ◌∷◌, ◌++◌, map, flat_map}
 use Rattle.std.specs.List.{list_all}
 use Rattle.hc_modules.proofs.Induction.{Each}
 
@@ -35,6 +35,9 @@ none_found f (x ∷ xs) h = let r = both_empty (f x) (flat_map f xs) h in (r.0, 
 
 pub both : {a b : Bool} → IsTrue a → IsTrue b → IsTrue (a && b)
 both e f = cc
+
+pub neither : {a b : Bool} → a ≡ false → b ≡ false → (a || b) ≡ false
+neither e f = cc
 
 pub both_parts : (a b : Bool) → IsTrue (a && b) → IsTrue a × IsTrue b
 both_parts true b h = (refl, h)

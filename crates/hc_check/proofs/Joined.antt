@@ -4,8 +4,6 @@ use Rattle.std.specs.Prelude.{count_by}
 use Rattle.std.specs.List.{list_any}
 use Rattle.std.proofs.lemmas.Bool.{le-leb, and_from}
 use Rattle.std.proofs.lemmas.List.Sums.{sum_by-cons}
-use Rattle.hc_ast.specs.Bare.{Word}
-use Rattle.hc_term.specs.declared.system.Process.{Process}
 use Rattle.hc_term.specs.Rules.{is_user, is_joined, all_below}
 use Rattle.hc_modules.specs.declared.flat.FlatProcess.{FlatProcess}
 use Rattle.hc_modules.proofs.Induction.{Each}

@@ -1,18 +1,12 @@
 -- The system of an expanded source keeps the rules where nothing is found.
-use Rattle.std.proofs.Common.{◌≡◌, refl, sym, subst, flat_map, ℕ, ◌≤◌, nat_eq, nat_le, Bool, true, ◌&&◌, IsTrue, List, [], ◌∷◌, map, length, sum_by}
+use Rattle.std.proofs.Common.{◌≡◌, refl, sym, subst, flat_map, ℕ, ◌≤◌, nat_le, true, IsTrue, List, [], ◌∷◌, map, length}
 use Rattle.std.specs.List.{list_all}
-use Rattle.std.specs.Cmp.Lexicographic.{pointwise}
 use Rattle.std.proofs.lemmas.Bool.{le-leb}
 use Rattle.std.proofs.lemmas.List.{length-map}
 use Rattle.hc_ast.specs.Bare.{Word}
-use Rattle.hc_ast.specs.declared.stmt.StmtTree.{StmtTree}
-use Rattle.hc_term.specs.declared.system.Process.{Process}
-use Rattle.hc_term.specs.Profile.{all_apart}
-use Rattle.hc_term.specs.Rules.{is_stmt, is_process, same_name, body_statements, body_size, are_few, all_below, is_joined, keeps_rules}
+use Rattle.hc_term.specs.Rules.{is_process, are_few, keeps_rules}
 use Rattle.hc_modules.specs.declared.flat.Flat.{Flat}
 use Rattle.hc_modules.specs.declared.flat.FlatProcess.{FlatProcess}
-use Rattle.hc_modules.specs.Sizes.{all_statements}
-use Rattle.hc_modules.specs.Outermost.{all_outermost, total_size}
 use Rattle.hc_modules.specs.Well.{is_full, is_full_process, IsWell}
 use Rattle.hc_modules.proofs.Induction.{Each}
 use Rattle.hc_finds.specs.Parts.{parts_of}
@@ -58,10 +52,7 @@ pub kept : (flat : Flat) → IsWell flat → refusals flat.processes ≡ []
 kept flat well none =
     let cs = channels_of flat.processes in
     let ps = flat.processes in
-    let ruled : IsTrue (list_all (is_process (length cs)) (map (process_over cs) ps)) =
-    processes_ruled cs ps (few_variables ps none) (each_passes is_full_process ps well.full) (clean ps none) in
-    both
-    (both
-    (both (few_of_both flat well none) (both (processes_apart cs ps well.apart) (channels_apart (flat_map channels_named ps))))
-    (both (within 10000 (all_statements_same cs ps) well.statements) (within 50000 (all_sizes_same cs ps) well.nodes)))
-    (both ruled (joined ps none))
+    let apart = both (processes_apart cs ps well.apart) (channels_apart (flat_map channels_named ps)) in
+    let small = both (within 10000 (all_statements_same cs ps) well.statements) (within 50000 (all_sizes_same cs ps) well.nodes) in
+    let ruled = processes_ruled cs ps (few_variables ps none) (each_passes is_full_process ps well.full) (clean ps none) in
+    both (both (both (few_of_both flat well none) apart) small) (both ruled (joined ps none))

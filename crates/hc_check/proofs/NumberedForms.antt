@@ -12,9 +12,7 @@ use Rattle.hc_ast.specs.declared.expr.CondKind as cond_kinds
 use Rattle.hc_ast.specs.declared.expr.CondKind.TheVariants as bare
 use Rattle.hc_ast.specs.declared.expr.CondKind.TheViews as test
 use Rattle.hc_ast.specs.declared.expr.CondTree.{CondTree}
-use Rattle.hc_term.specs.declared.expr.Expr as exprs
 use Rattle.hc_term.specs.declared.expr.Expr.TheVariants as an
-use Rattle.hc_term.specs.declared.expr.Cond as conds
 use Rattle.hc_term.specs.declared.expr.Cond.TheVariants as a
 use Rattle.hc_finds.specs.Names.{number_in}
 use Rattle.hc_check.specs.Numbered.{op_of, comparison_of, value_of, expr_over, cond_over}

@@ -1,5 +1,5 @@
 -- Numbered expressions move along lines: no divisor but a number other than 0, no product with evolving variables on both sides.
-use Rattle.std.proofs.Common.{◌≡◌, refl, ap, ap₂, sym, subst, ◌∙◌, ℕ, zero, suc, ◌+◌, ◌*◌, ◌<◌, ◌^◌, ℤ, pos, negsuc, unsigned_abs, not, Bool, true, false, ◌&&◌, ◌||◌, ◌==◌, IsTrue, List, [], ◌∷◌, ◌++◌, None, arith}
+use Rattle.std.proofs.Common.{◌≡◌, refl, ap, ap₂, sym, ◌∙◌, ℕ, zero, suc, ◌+◌, ◌*◌, ◌<◌, ◌^◌, ℤ, pos, negsuc, unsigned_abs, not, Bool, true, false, ◌&&◌, ◌||◌, ◌==◌, IsTrue, List, [], ◌++◌, None, arith}
 use Rattle.std.specs.Prelude.{slice_index_or}
 use Rattle.std.proofs.Math.Nat.{mul-pos}
 use Rattle.std.proofs.lemmas.Bool.Decides.{nat_tests}
@@ -21,7 +21,7 @@ use Rattle.hc_modules.specs.Finds.{only_if}
 use Rattle.hc_finds.specs.Exprs.{odd_divisors, nought_divisors, is_nought, is_division, is_product, is_among, moves_of}
 use Rattle.hc_finds.specs.Names.{number_in}
 use Rattle.hc_finds.proofs.ExprForms as inside
-use Rattle.hc_check.specs.Numbered.{op_of, value_of, expr_over}
+use Rattle.hc_check.specs.Numbered.{op_of, expr_over}
 use Rattle.hc_check.proofs.Clean.{is_named}
 use Rattle.hc_check.proofs.EachLists.{both, both_empty}
 use Rattle.hc_check.proofs.ExprInduction.{ExprSteps, by_expr}
@@ -117,7 +117,7 @@ module _ (xs ys : List Word) (r : Rates)
       let parts = both_empty (only_if d e.place) (odd_divisors false a) (sym (inside.odd-neg e a is d) ∙ odd) in
       let none : d ≡ false = nothing_there d e.place parts.0 in
       let rest = f false (named-neg xs e a is named) parts.1 (sym (inside.nought-neg e a is d) ∙ nought)
-          (sym (ap (λ m. m.products) (inside.moves-neg e a is ys)) ∙ products) in
+      (sym (ap (λ m. m.products) (inside.moves-neg e a is ys)) ∙ products) in
       record { affine = ap (λ (t : Form). t.affine) shape ∙ rest.affine; divisor = λ t. absurd (cc (t, none)) }
 
   right_binary : (e : ExprTree) (op : Op) (a b : ExprTree) → e.kind ≡ seen.Binary op a b → IsRight a → IsRight b → IsRight e
@@ -130,12 +130,12 @@ module _ (xs ys : List Word) (r : Rates)
       let noughts = both_empty (nought_divisors false a) (nought_divisors (is_division op) b) (sym (inside.nought-binary e op a b is d) ∙ nought) in
       let both_move = is_product op && ((moves_of ys a).moves && (moves_of ys b).moves) in
       let all = both_empty ((moves_of ys a).products ++ only_if both_move e.place) (moves_of ys b).products
-          (sym (inside.products-binary e op a b is ys) ∙ products) in
+      (sym (inside.products-binary e op a b is ys) ∙ products) in
       let left_all = both_empty (moves_of ys a).products (only_if both_move e.place) all.0 in
       let left = f false names.0 left_odds.0 noughts.0 left_all.0 in
       let right = g (is_division op) names.1 odds.1 noughts.1 all.1 in
       let allows = allowed_by op (form r (expr_over xs a)) (form r (expr_over xs b)) (moves_of ys a).moves (moves_of ys b).moves
-          (moves_same a names.0) (moves_same b names.1) (nothing_there both_move e.place left_all.1) right in
+      (moves_same a names.0) (moves_same b names.1) (nothing_there both_move e.place left_all.1) right in
       record {
         affine = ap (λ (t : Form). t.affine) shape ∙ both (both left.affine right.affine) allows;
         divisor = λ t. absurd (cc (t, none));
@@ -165,7 +165,7 @@ still_steps = record {
   binary = λ e op a b is f g. (
     inside.moves-binary e op a b is [] ∙ ap₂ (λ (m n : Bool). m || n) f.0 g.0,
     inside.products-binary e op a b is []
-    ∙ no_product op e.place (moves_of [] a).moves (moves_of [] b).moves (moves_of [] a).products (moves_of [] b).products f.0 f.1 g.1,
+        ∙ no_product op e.place (moves_of [] a).moves (moves_of [] b).moves (moves_of [] a).products (moves_of [] b).products f.0 f.1 g.1,
   );
 }
 

@@ -1,7 +1,6 @@
 -- Numbering changes no count of nodes, and reaches no further than the names that there are.
-use Rattle.std.proofs.Common.{◌≡◌, refl, ap, ap₂, sym, subst, ◌∙◌, ℕ, ◌+◌, ◌≤◌, max, IsTrue, List, [], ◌∷◌, ◌++◌, map, length, arith}
+use Rattle.std.proofs.Common.{◌≡◌, ap, ap₂, sym, subst, ◌∙◌, ℕ, ◌+◌, ◌≤◌, IsTrue, List, [], ◌∷◌, map, length, arith}
 use Rattle.std.proofs.lemmas.List.{map-append}
-use Rattle.std.proofs.Math.Nat.{max-le}
 use Rattle.hc_ast.specs.Bare.{Word}
 use Rattle.hc_ast.specs.declared.expr.Op.{Op}
 use Rattle.hc_ast.specs.declared.expr.ExprKind.TheViews as seen
@@ -11,9 +10,8 @@ use Rattle.hc_modules.specs.Sizes as source
 use Rattle.hc_modules.proofs.Induction.{Each}
 use Rattle.hc_term.specs.Profile.{nodes, nodes_in, reach, reach_in}
 use Rattle.hc_finds.specs.Exprs.{words_in, names_in, sides}
-use Rattle.hc_finds.specs.Names.{number_in}
 use Rattle.hc_finds.proofs.ExprForms.{names-neg, names-binary, sides-compare, sides-not, sides-and, sides-or}
-use Rattle.hc_check.specs.Numbered.{op_of, comparison_of, value_of, expr_over, cond_over}
+use Rattle.hc_check.specs.Numbered.{expr_over, cond_over}
 use Rattle.hc_check.proofs.Clean.{is_named}
 use Rattle.hc_check.proofs.Numbers.{below}
 use Rattle.hc_check.proofs.EachLists.{each_both}

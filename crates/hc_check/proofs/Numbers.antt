@@ -1,5 +1,5 @@
 -- The number of a name that is there: it is below the count, and names of one number are the same.
-use Rattle.std.proofs.Common.{◌≡◌, ◌∙◌, refl, sym, subst, ap, ℕ, ◌+◌, ◌<◌, not, ◌||◌, ◌==◌, cond, Bool, true, false, IsTrue, List, [], ◌∷◌, length, get_or, arith}
+use Rattle.std.proofs.Common.{◌≡◌, ◌∙◌, refl, sym, subst, ap, ◌+◌, ◌<◌, not, ◌||◌, ◌==◌, cond, Bool, true, false, IsTrue, List, [], ◌∷◌, length, get_or, arith}
 use Rattle.std.proofs.lemmas.Bool.Decides.{Decides-eqb}
 use Rattle.std.proofs.lemmas.Cmp.{nat_list_eq_equiv}
 use Rattle.std.proofs.lemmas.List.Sums.{prefix_len_stops}
@@ -54,6 +54,7 @@ number_same names x y h = by (same_word x y) refl
         let one : y ≡ x = same_names names y x h (sym equal) in
         let same : same_word x y ≡ true = subst (λ (z : Word). same_word z y ≡ true) one (nat_list_eq_equiv.refl y) in
         absurd (cc (same, e))
+
     by : (b : Bool) → same_word x y ≡ b → (number_in names x == number_in names y) ≡ same_word x y
     by true e = (Decides-eqb (number_in names x) (number_in names y)).1 (ap (number_in names) (same_text x y (sym e))) ∙ sym e
     by false e = apart (number_in names x == number_in names y) refl e ∙ sym e

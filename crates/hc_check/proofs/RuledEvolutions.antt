@@ -1,5 +1,5 @@
 -- An evolution against which nothing is found keeps the rules.
-use Rattle.std.proofs.Common.{◌≡◌, nat_le, Bool, ◌&&◌, IsTrue, List, [], length, map}
+use Rattle.std.proofs.Common.{◌≡◌, nat_le, IsTrue, List, [], length, map}
 use Rattle.hc_frac.specs.declared.place.Place.{Place}
 use Rattle.hc_ast.specs.Bare.{Word}
 use Rattle.hc_ast.specs.declared.expr.CondTree.{CondTree}

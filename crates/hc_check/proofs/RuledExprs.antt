@@ -1,5 +1,5 @@
 -- An expression or condition against which nothing is found keeps the rules once its names are numbers.
-use Rattle.std.proofs.Common.{◌≡◌, refl, ap, ap₂, sym, subst, ◌∙◌, ℕ, ◌≤◌, Bool, true, false, ◌&&◌, nat_le, IsTrue, List, [], ◌∷◌, ◌++◌, length, None, arith}
+use Rattle.std.proofs.Common.{◌≡◌, refl, ap, sym, subst, ◌∙◌, ◌≤◌, false, IsTrue, List, [], ◌∷◌, length, None, arith}
 use Rattle.std.specs.Prelude.{slice_index_or}
 use Rattle.std.proofs.lemmas.Bool.{le-leb}
 use Rattle.hc_ast.specs.Bare.{Word}

@@ -1,5 +1,5 @@
 -- The branches of a choice or an evolution against which nothing is found: their communications keep the rules.
-use Rattle.std.proofs.Common.{◌≡◌, refl, ap, ap₂, sym, subst, ◌∙◌, ℕ, ◌+◌, ◌≤◌, nat_le, Bool, true, false, ◌&&◌, ◌==◌, IsTrue, List, [], ◌∷◌, ◌++◌, length, map, arith, length-append}
+use Rattle.std.proofs.Common.{◌≡◌, refl, ◌∙◌, ℕ, ◌+◌, ◌≤◌, nat_le, false, IsTrue, List, [], ◌∷◌, ◌++◌, length, map, arith, length-append}
 use Rattle.std.specs.List.{list_any, list_all}
 use Rattle.std.proofs.lemmas.List.{length-map}
 use Rattle.std.proofs.lemmas.Bool.{le-leb}
@@ -14,7 +14,7 @@ use Rattle.hc_finds.specs.declared.rules.Rule.TheVariants as rule
 use Rattle.hc_finds.specs.Exprs.{moves_of}
 use Rattle.hc_finds.specs.Limits.{channel_of}
 use Rattle.hc_finds.specs.Looks.{evolving, same_way, sent_in}
-use Rattle.hc_finds.specs.Parts.{Guard, guard, guards_from}
+use Rattle.hc_finds.specs.Parts.{Guard, guards_from}
 use Rattle.hc_check.specs.Numbered.{io_over}
 use Rattle.hc_check.proofs.Apart.{Differ, apart}
 use Rattle.hc_check.proofs.Clean.{is_named, IsClean}

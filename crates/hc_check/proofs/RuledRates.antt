@@ -1,5 +1,5 @@
 -- The rates of an evolution against which nothing is found: which variables evolve, and that the rates keep the rules.
-use Rattle.std.proofs.Common.{◌≡◌, refl, ap, ap₂, sym, subst, ◌∙◌, ℕ, ◌<◌, nat_le, Bool, true, false, not, ◌&&◌, ◌||◌, ◌==◌, IsTrue, List, [], ◌∷◌, ◌++◌, length, map, flat_map, replicate, slice_set, Option, Some, None, arith}
+use Rattle.std.proofs.Common.{◌≡◌, refl, ap, ap₂, sym, subst, ◌∙◌, ℕ, ◌<◌, nat_le, Bool, true, false, not, ◌||◌, ◌==◌, IsTrue, List, [], ◌∷◌, ◌++◌, length, map, replicate, slice_set, Option, Some, None, arith}
 use Rattle.std.specs.Prelude.{slice_index_or}
 use Rattle.std.specs.List.{list_any, list_all}
 use Rattle.std.proofs.lemmas.List.{get_or-set_same, get_or-set_other, get_or-replicate, length-set, length-replicate, length-map}
@@ -16,7 +16,7 @@ use Rattle.hc_term.specs.Motion.{Rates, evolves, form}
 use Rattle.hc_term.specs.Profile.{all_apart, pattern_from, pattern_of, same_variable, is_rate, are_rates}
 use Rattle.hc_term.proofs.Used.{list_any-map}
 use Rattle.hc_finds.specs.declared.rules.Rule.TheVariants as rule
-use Rattle.hc_finds.specs.Exprs.{Named, names_in, words_in, is_among, moves_of}
+use Rattle.hc_finds.specs.Exprs.{Named, names_in, is_among, moves_of}
 use Rattle.hc_finds.specs.Looks.{evolving}
 use Rattle.hc_finds.specs.Names.{number_in}
 use Rattle.hc_finds.specs.Parts.{rate, rates_from}
@@ -24,7 +24,7 @@ use Rattle.hc_finds.proofs.ExprForms as inside
 use Rattle.hc_check.specs.Numbered.{expr_over, rate_over}
 use Rattle.hc_check.proofs.Apart.{Differ, apart}
 use Rattle.hc_check.proofs.Clean.{is_named, IsClean}
-use Rattle.hc_check.proofs.EachLists.{both, each_both, each_weaker, none_found}
+use Rattle.hc_check.proofs.EachLists.{both, neither, each_both, each_weaker, none_found}
 use Rattle.hc_check.proofs.ExprInduction.{ExprSteps, by_expr}
 use Rattle.hc_check.proofs.Numbers.{below, number_same}
 use Rattle.hc_check.proofs.NumberedLines.{nothing_there, moves_same}
@@ -34,6 +34,10 @@ use Rattle.hc_check.proofs.SourceForms as of
 
 -- ---- the pattern of the rates
 
+or_none : (b : Bool) → b ≡ (b || false)
+or_none true = refl
+or_none false = refl
+
 one_set : (before : Rates) (v i : ℕ) (q : Rational) → i < length before
     → evolves (slice_index_or (slice_set before v (Some q)) i None) ≡ (evolves (slice_index_or before i None) || (v == i))
 one_set before v i q h = by (v == i) refl
@@ -41,9 +45,7 @@ one_set before v i q h = by (v == i) refl
     or_yes : (b : Bool) → true ≡ (b || true)
     or_yes true = refl
     or_yes false = refl
-    or_no : (b : Bool) → b ≡ (b || false)
-    or_no true = refl
-    or_no false = refl
+
     by : (b : Bool) → (v == i) ≡ b → evolves (slice_index_or (slice_set before v (Some q)) i None) ≡ (evolves (slice_index_or before i None) || (v == i))
     by true e =
         let here : v ≡ i = (Decides-eqb v i).0 e in
@@ -52,15 +54,11 @@ one_set before v i q h = by (v == i) refl
         ∙ or_yes (evolves (slice_index_or before i None)) ∙ ap (λ b. evolves (slice_index_or before i None) || b) (sym e)
     by false e =
         ap evolves (get_or-set_other before v i (Some q) None (λ k. absurd (cc (e, (Decides-eqb v i).1 (sym k)))))
-        ∙ or_no (evolves (slice_index_or before i None)) ∙ ap (λ b. evolves (slice_index_or before i None) || b) (sym e)
+        ∙ or_none (evolves (slice_index_or before i None)) ∙ ap (λ b. evolves (slice_index_or before i None) || b) (sym e)
 
 or_assoc : (a b c : Bool) → ((a || b) || c) ≡ (a || (b || c))
 or_assoc true b c = refl
 or_assoc false b c = refl
-
-or_none : (b : Bool) → b ≡ (b || false)
-or_none true = refl
-or_none false = refl
 
 pattern_at : (before : Rates) (rs : List Rate) (i : ℕ) → i < length before
     → evolves (slice_index_or (pattern_from before rs) i None) ≡ (evolves (slice_index_or before i None) || list_any (λ r. r.variable == i) rs)
@@ -95,9 +93,6 @@ module _ (ys : List Word) where
   abbrev IsApart : ExprTree → Type 0
   IsApart e = Each (λ n. is_among ys n.word ≡ false) (names_in e) → (moves_of ys e).moves ≡ false
 
-  neither_moves : (a b : Bool) → a ≡ false → b ≡ false → (a || b) ≡ false
-  neither_moves a b e f = cc
-
   apart_steps : ExprSteps IsApart
   apart_steps = record {
     number = λ e d is h. of.moves-number e d is ys;
@@ -106,8 +101,8 @@ module _ (ys : List Word) where
         ∙ f (subst (λ (ns : List Named). Each (λ n. is_among ys n.word ≡ false) ns) (inside.names-neg e a is) h);
     binary = λ e op a b is f g h.
         let parts = each_both (λ n. is_among ys n.word ≡ false) (names_in a) (names_in b)
-            (subst (λ (ns : List Named). Each (λ n. is_among ys n.word ≡ false) ns) (inside.names-binary e op a b is) h) in
-        inside.moves-binary e op a b is ys ∙ neither_moves (moves_of ys a).moves (moves_of ys b).moves (f parts.0) (g parts.1);
+        (subst (λ (ns : List Named). Each (λ n. is_among ys n.word ≡ false) ns) (inside.names-binary e op a b is) h) in
+        inside.moves-binary e op a b is ys ∙ neither (f parts.0) (g parts.1);
   }
 
   -- an expression without such names doesn't move
@@ -124,8 +119,8 @@ module _ (cs xs : List Word) where
       → (form (pattern all) (expr_over xs r.value)).moves ≡ false
   rate_moves_not all earlier r h =
       let none = each_weaker (λ n. only_if (is_among (evolving all) n.word) n.place ≡ []) (λ n. is_among (evolving all) n.word ≡ false)
-          (λ n k. nothing_there (is_among (evolving all) n.word) n.place k) (names_in r.value)
-          (none_found (λ (n : Named). only_if (is_among (evolving all) n.word) n.place) (names_in r.value) (h.lawful rule.RatesAreConstant)) in
+      (λ n k. nothing_there (is_among (evolving all) n.word) n.place k) (names_in r.value)
+      (none_found (λ (n : Named). only_if (is_among (evolving all) n.word) n.place) (names_in r.value) (h.lawful rule.RatesAreConstant)) in
       moves_same xs (evolving all) (pattern all) (pattern_agrees xs all) r.value h.variables.1 ∙ moves_not (evolving all) r.value none
 
   each_rate : (all earlier rs : List RateTree) → Each (IsClean cs xs) (rates_from all earlier rs)
@@ -151,7 +146,7 @@ module _ (cs xs : List Word) where
   rates_differ all earlier [] h = tt
   rates_differ all earlier (r ∷ rs) h = (
     sym (list_any-map (λ y. same_word y r.variable) (λ q. q.variable) earlier)
-    ∙ nothing_there (is_among (evolving earlier) r.variable) r.place (h.0.lawful rule.RatesDiffer),
+        ∙ nothing_there (is_among (evolving earlier) r.variable) r.place (h.0.lawful rule.RatesDiffer),
     rates_differ all (earlier ++ r ∷ []) rs h.1,
   )
 

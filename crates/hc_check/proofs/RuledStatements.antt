@@ -1,5 +1,5 @@
 -- Statements against whose parts nothing is found keep the rules once their names are numbers.
-use Rattle.std.proofs.Common.{rules, ◌≡◌, refl, ap, ap₂, sym, subst, ◌∙◌, ℕ, nat_le, Bool, true, false, ◌&&◌, IsTrue, List, [], ◌∷◌, ◌++◌, length, map, Option, Some, None}
+use Rattle.std.proofs.Common.{rules, ◌≡◌, refl, ap, ap₂, sym, subst, ◌∙◌, nat_le, Bool, true, false, IsTrue, List, [], ◌∷◌, ◌++◌, length, map, Option, Some, None}
 use Rattle.std.specs.List.{list_all}
 use Rattle.std.proofs.lemmas.List.{length-map}
 use Rattle.hc_ast.specs.Bare.{Word}
@@ -13,13 +13,12 @@ use Rattle.hc_ast.specs.declared.stmt.StmtKind.TheViews as seen
 use Rattle.hc_ast.specs.declared.stmt.StmtTree.{StmtTree}
 use Rattle.hc_ast.specs.declared.stmt.BranchTree.{BranchTree, out-BranchTree}
 use Rattle.hc_modules.specs.Well.{some_full, is_full, is_full_branch}
-use Rattle.hc_modules.proofs.Full.{all_full, else_full_of, mapped_full, full-If, full-Pick, full-Forever, full-Loop, full-Choice, full-Evolve}
+use Rattle.hc_modules.proofs.Full.{all_full, mapped_full, full-If, full-Pick, full-Forever, full-Loop, full-Choice, full-Evolve}
 use Rattle.hc_modules.proofs.Induction.{Each, EachElse, EachBehind, Steps, by_induction}
 use Rattle.hc_term.specs.declared.stmt.Io.{Io}
-use Rattle.hc_term.specs.declared.stmt.Branch.{Branch, out-Branch}
 use Rattle.hc_term.specs.Profile.{is_evolution, are_guards, ios_in}
 use Rattle.hc_term.specs.Rules.{is_stmt}
-use Rattle.hc_term.proofs.Ruled.{all_keep, branches_keep, is_stmt-If, is_stmt-Pick, is_stmt-Loop, is_stmt-Forever, is_stmt-Choice, is_stmt-Evolve}
+use Rattle.hc_term.proofs.Ruled.{branches_keep, is_stmt-If, is_stmt-Pick, is_stmt-Loop, is_stmt-Forever, is_stmt-Choice, is_stmt-Evolve}
 use Rattle.hc_finds.specs.Parts.{Part, Guard, assign, compute, test, communicate, domain, parts, parts_of, guard_of, guards_from, rates_from}
 use Rattle.hc_finds.proofs.PartForms.{parts-if, parts-else, parts-pick, parts-forever, parts-choice, parts-evolve, parts-tested, parts-loop, guard-is}
 use Rattle.hc_check.specs.Numbered.{cond_over, rate_over, io_over, stmt_over, branch_over}
@@ -114,7 +113,7 @@ module _ (cs xs : List Word) (first : Bool) where
   pick_step s ss rs e f g full clean =
       let fulls = both_parts (all_full ss) (all_full rs) (sym (full-Pick s ss rs e) ∙ full) in
       let inner = each_both (IsClean cs xs) (parts_of first ss) (parts_of first rs)
-          (cleaned s (parts_of first ss ++ parts_of first rs) (parts-pick first s ss rs e) clean) in
+      (cleaned s (parts_of first ss ++ parts_of first rs) (parts-pick first s ss rs e) clean) in
       is_stmt-Pick (length cs) (length xs) (stmt_over cs xs s) _ _ (form.over-Pick cs xs s ss rs e)
       ∙ both (some_ruled ss f fulls.0 inner.0) (some_ruled rs g fulls.1 inner.1)
 
@@ -157,7 +156,7 @@ module _ (cs xs : List Word) (first : Bool) where
   evolve_step s rs c bs e f full clean =
       let fulls = both_parts (nat_le 1 (length rs)) (list_all is_full_branch bs) (sym (full-Evolve s rs c bs e) ∙ full) in
       let here = each_both (IsClean cs xs) (rates_from rs [] rs) (domain rs s.place c ∷ guards_from rs [] (map (guard_of first) bs))
-          (cleaned s (rates_from rs [] rs ++ domain rs s.place c ∷ guards_from rs [] (map (guard_of first) bs)) (parts-evolve first s rs c bs e) clean) in
+      (cleaned s (rates_from rs [] rs ++ domain rs s.place c ∷ guards_from rs [] (map (guard_of first) bs)) (parts-evolve first s rs c bs e) clean) in
       let guards : AreClean cs xs rs [] (map (guard_of first) bs) = here.1.1 in
       is_stmt-Evolve (length cs) (length xs) (stmt_over cs xs s) _ _ (map (branch_over cs xs) bs) (form.over-Evolve cs xs s rs c bs e)
       ∙ both (both (ap (is_evolution (length xs) (map (rate_over xs) rs) (cond_over xs c)) (guards_over bs)
@@ -171,7 +170,7 @@ loop_clean : (cs xs : List Word) (first : Bool) (s : StmtTree) (c : CondTree) (s
 loop_clean cs xs true s c ss e clean = cleaned cs xs true s (test s.place c ∷ parts_of true ss) (parts-tested true s c ss e refl) clean
 loop_clean cs xs false s c ss e clean =
     let r = each_both (IsClean cs xs) (parts_of false ss) (test s.place c ∷ [])
-        (cleaned cs xs false s (parts_of false ss ++ test s.place c ∷ []) (parts-loop false s c ss e refl) clean) in
+    (cleaned cs xs false s (parts_of false ss ++ test s.place c ∷ []) (parts-loop false s c ss e refl) clean) in
     (r.1.0, r.0)
 
 module _ (cs xs : List Word) (first : Bool) where

@@ -6,7 +6,6 @@ use Rattle.std.proofs.lemmas.Grind.{flat_map-append}
 use Rattle.std.proofs.lemmas.List.Folds.{list_any-append}
 use Rattle.hc_frac.specs.declared.place.Place.{Place}
 use Rattle.hc_ast.specs.Bare.{Word}
-use Rattle.hc_ast.specs.declared.expr.ExprTree.{ExprTree}
 use Rattle.hc_ast.specs.declared.expr.CondTree.{CondTree}
 use Rattle.hc_ast.specs.declared.stmt.IoTree.{IoTree}
 use Rattle.hc_ast.specs.declared.stmt.IoTree.TheVariants as io_of
@@ -24,12 +23,12 @@ use Rattle.hc_term.proofs.Used as forms
 use Rattle.hc_modules.specs.declared.flat.FlatProcess.{FlatProcess}
 use Rattle.hc_modules.proofs.Induction.{Each, EachElse, EachBehind, Steps, by_induction}
 use Rattle.hc_finds.specs.Names.{number_in}
-use Rattle.hc_finds.specs.Parts.{Part, assign, compute, test, communicate, domain, guard, guards_from, rates_from, guard_of, parts, parts_of}
+use Rattle.hc_finds.specs.Parts.{Part, test, domain, guards_from, rates_from, guard_of, parts, parts_of}
 use Rattle.hc_finds.specs.Limits.{variables_of}
 use Rattle.hc_finds.specs.Uses.{Use, use_at, uses_in, uses_of, goes}
 use Rattle.hc_finds.proofs.PartForms.{parts-if, parts-else, parts-pick, parts-forever, parts-choice, parts-evolve, parts-loop}
-use Rattle.hc_check.specs.Numbered.{expr_over, cond_over, rate_over, io_over, stmt_over, branch_over, process_over}
-use Rattle.hc_check.proofs.OverForms.{else_over, over-Skip, over-Assign, over-Wait, over-Io, over-Log, over-If, over-Pick, over-Forever, over-Loop, over-Choice, over-Evolve, io-over-branch, body-over-branch}
+use Rattle.hc_check.specs.Numbered.{cond_over, rate_over, io_over, stmt_over, branch_over, process_over}
+use Rattle.hc_check.proofs.OverForms.{over-Skip, over-Assign, over-Wait, over-Io, over-Log, over-If, over-Pick, over-Forever, over-Loop, over-Choice, over-Evolve, io-over-branch, body-over-branch}
 use Rattle.hc_check.proofs.InEitherOrder.{parts-skip, parts-assign, parts-wait, parts-io, parts-log, guards-cons}
 
 -- a use of the channel with this number

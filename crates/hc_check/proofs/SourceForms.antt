@@ -1,5 +1,5 @@
 -- Nodes, names, divisors and products of an expression and a condition that is no more than a number, a name or a test.
-use Rattle.std.proofs.Common.{rules, ◌≡◌, ℕ, ◌+◌, Bool, false, ◌&&◌, List, [], ◌∷◌, map}
+use Rattle.std.proofs.Common.{rules, ◌≡◌, ◌+◌, Bool, false, ◌&&◌, List, [], ◌∷◌}
 use Rattle.hc_frac.specs.declared.decimal.Decimal.{Decimal}
 use Rattle.hc_ast.specs.Bare.{Word}
 use Rattle.hc_ast.specs.declared.expr.Op.{Op}

@@ -1,5 +1,5 @@
 -- The forms of statements whose names are numbers, each by the form that it had before; and when a statement without others inside keeps the rules.
-use Rattle.std.proofs.Common.{rules, ◌≡◌, refl, ap, ◌∙◌, ℕ, ◌+◌, nat_le, Bool, true, ◌&&◌, List, [], ◌∷◌, map, Some, None}
+use Rattle.std.proofs.Common.{rules, ◌≡◌, ℕ, ◌+◌, nat_le, true, ◌&&◌, List, [], map, Some, None}
 use Rattle.hc_ast.specs.Bare.{Word}
 use Rattle.hc_ast.specs.declared.expr.ExprTree.{ExprTree}
 use Rattle.hc_ast.specs.declared.expr.CondTree.{CondTree}

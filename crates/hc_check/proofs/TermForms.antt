@@ -1,5 +1,5 @@
 -- Nodes, reach and form of each form of an expression and a condition.
-use Rattle.std.proofs.Common.{rules, ◌≡◌, ℕ, ◌+◌, max, not, Bool, true, false, ◌&&◌, ◌||◌, None}
+use Rattle.std.proofs.Common.{rules, ◌≡◌, ℕ, ◌+◌, max, not, true, false, ◌&&◌, ◌||◌, None}
 use Rattle.std.specs.Prelude.{slice_index_or}
 use Rattle.hc_rational.specs.Words.{Rational, is_zero}
 use Rattle.hc_term.specs.declared.expr.Op.{Op}

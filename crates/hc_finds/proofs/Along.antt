@@ -1,10 +1,9 @@
 -- Parts one after another.
-use Rattle.std.proofs.Common.{◌≡◌, ap, ◌∙◌, ℕ, ◌+◌, ◌<◌, List, [], ◌∷◌, ◌++◌, map, flat_map, drop, get_or, length, slice_get, Option, Some, None}
+use Rattle.std.proofs.Common.{◌≡◌, ap, ◌∙◌, ℕ, ◌+◌, ◌<◌, List, ◌∷◌, flat_map, drop, get_or, length, slice_get, Some, None}
 use Rattle.std.proofs.lemmas.List.{drop_more}
 use Rattle.hc_frac.specs.declared.place.Place.{Place}
 use Rattle.hc_finds.specs.declared.parts.Part as program
 use Rattle.hc_finds.specs.declared.rules.Rule.{Rule}
-use Rattle.hc_finds.specs.Parts.{Part}
 use Rattle.hc_finds.specs.Rules.{breaks, refused_by, broken}
 use Rattle.hc_finds.specs.Seen.{part_of, seen}
 use Rattle.hc_finds.proofs.First.{said-some, said-none}

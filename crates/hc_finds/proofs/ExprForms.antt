@@ -1,6 +1,5 @@
 -- What is looked for in each form of an expression and a condition.
-use Rattle.std.proofs.Common.{rules, ◌≡◌, ap, sym, ◌∙◌, Bool, true, false, ◌&&◌, ◌||◌, List, [], ◌∷◌, ◌++◌, map, flat_map}
-use Rattle.std.proofs.lemmas.Grind.{flat_map-append}
+use Rattle.std.proofs.Common.{rules, ◌≡◌, Bool, false, ◌&&◌, ◌||◌, List, [], ◌∷◌, ◌++◌}
 use Rattle.hc_ast.specs.declared.expr.Op.{Op}
 use Rattle.hc_ast.specs.declared.expr.Comparison.{Comparison}
 use Rattle.hc_ast.specs.declared.expr.ExprKind as kinds
@@ -12,7 +11,7 @@ use Rattle.hc_ast.specs.declared.expr.CondKind.TheVariants as plain
 use Rattle.hc_ast.specs.declared.expr.CondTree.{CondTree}
 use Rattle.hc_ast.specs.Bare.{Word}
 use Rattle.hc_modules.specs.Finds.{only_if}
-use Rattle.hc_finds.specs.Exprs.{Moves, names_in, sides, is_division, is_product, odd_divisors, nought_divisors, moves_of, mixed_in}
+use Rattle.hc_finds.specs.Exprs.{names_in, sides, is_division, is_product, odd_divisors, nought_divisors, moves_of, mixed_in}
 
 module _ (e : ExprTree) where
   module _ (a : ExprTree) (is : e.kind ≡ seen.Neg a) where

@@ -1,5 +1,5 @@
 -- The first element of lists in a row.
-use Rattle.std.proofs.Common.{◌≡◌, ℕ, ◌+◌, ◌<◌, length, take, drop, get_or, sym, refl, ap, ◌∙◌, flat_map, map, Bool, true, false, List, [], ◌∷◌, ◌++◌, Option, Some, None, slice_get}
+use Rattle.std.proofs.Common.{◌≡◌, ℕ, ◌+◌, ◌<◌, length, take, drop, get_or, sym, refl, ap, ◌∙◌, flat_map, map, List, [], ◌∷◌, ◌++◌, Some, None, slice_get}
 use Rattle.std.proofs.lemmas.Grind.{flat_map-append}
 use Rattle.std.proofs.lemmas.List.{drop_more, take_more, map-append}
 use Rattle.std.specs.Option.{option_or}
@@ -44,7 +44,7 @@ pub along-at : {X Z : Type 0} (look : List X → X → List Place) (f : Z → X)
 along-at look f zs i d h =
     ap (λ xs. along look (map f (take i zs)) (map f xs)) (drop_more zs i d h)
     ∙ ap (λ xs. look (map f (take i zs)) (f (get_or zs i d)) ++ along look xs (map f (drop (i + 1) zs)))
-        (sym (ap (map f) (take_more zs i d h) ∙ map-append f (take i zs) (get_or zs i d ∷ [])))
+    (sym (ap (map f) (take_more zs i d h) ∙ map-append f (take i zs) (get_or zs i d ∷ [])))
 
 -- looked at one after another from number i on, by one question
 module _ {X Y : Type 0} (f : X → List Y) (xs : List X) (i : ℕ) (d : X) (h : i < length xs) where

@@ -1,9 +1,8 @@
 -- What the program counts along the parts is what the limits say.
-use Rattle.std.proofs.Common.{◌≡◌, ℕ, ◌+◌, ◌<◌, nat_lt, refl, ap, ap₂, sym, subst, ◌∙◌, List, [], ◌∷◌, ◌++◌, map, flat_map, take, drop, get_or, length, slice_get, Some}
+use Rattle.std.proofs.Common.{◌≡◌, ℕ, ◌+◌, ◌<◌, nat_lt, refl, ap, ap₂, sym, subst, ◌∙◌, List, [], ◌∷◌, ◌++◌, map, flat_map, take, drop, get_or, length}
 use Rattle.std.proofs.lemmas.List.{drop_more, take_more, map-append}
 use Rattle.std.proofs.lemmas.Grind.{flat_map-append}
 use Rattle.std.proofs.lemmas.List.{append-nil}
-use Rattle.hc_frac.specs.declared.place.Place.{Place}
 use Rattle.hc_ast.specs.Bare.{Word}
 use Rattle.hc_modules.specs.declared.flat.FlatProcess.{FlatProcess}
 use Rattle.hc_modules.specs.Finds.{only_if}
@@ -26,9 +25,9 @@ flat_alike f g e (x ∷ xs) = ap₂ (λ ys zs. ys ++ zs) (e x) (flat_alike f g e
 channels_same : (cs : List Word) (x : Part) → channels_beyond cs x ≡ channels_over (noted [] cs) x
 channels_same cs x =
     flat_alike (λ c. only_if (nat_lt 256 (length (first_occurrences (cs ++ c ∷ [])))) (place_of x))
-        (λ c. only_if (nat_lt 256 (length (noted (noted [] cs) (c ∷ [])))) (place_of x))
-        (λ c. ap (λ names. only_if (nat_lt 256 (length names)) (place_of x)) (first-more cs (c ∷ [])))
-        (channels_in x)
+    (λ c. only_if (nat_lt 256 (length (noted (noted [] cs) (c ∷ [])))) (place_of x))
+    (λ c. ap (λ names. only_if (nat_lt 256 (length names)) (place_of x)) (first-more cs (c ∷ [])))
+    (channels_in x)
 
 variables_same : (vs : List Word) (x : Part) → variables_beyond vs x ≡ variables_over (noted [] vs) x
 variables_same vs x = ap (λ names. only_if (nat_lt 64 (length names)) (place_of x)) (first-more vs (variables_in x))
@@ -36,14 +35,14 @@ variables_same vs x = ap (λ names. only_if (nat_lt 64 (length names)) (place_of
 at_same : (cs vs : List Word) (x : Part) → beyond_at cs vs x ≡ over_at (noted [] cs) (noted [] vs) x
 at_same cs vs x =
     ap₂ (λ us ws. map (TooMany what.Guards) (guards_beyond x) ++ map (TooMany what.Channels) us ++ map (TooMany what.Variables) ws
-        ++ map (TooMany what.Nodes) (nodes_beyond x)) (channels_same cs x) (variables_same vs x)
+    ++ map (TooMany what.Nodes) (nodes_beyond x)) (channels_same cs x) (variables_same vs x)
 
 pub along_same : (cs vs : List Word) (xs : List Part) → beyond_along cs vs xs ≡ over_along (noted [] cs) (noted [] vs) xs
 along_same cs vs [] = refl
 along_same cs vs (x ∷ xs) =
     ap₂ (λ us ws. us ++ ws) (at_same cs vs x) (along_same (cs ++ channels_in x) (vs ++ variables_in x) xs)
     ∙ ap₂ (λ us ws. over_at (noted [] cs) (noted [] vs) x ++ over_along us ws xs)
-        (noted-append [] cs (channels_in x)) (noted-append [] vs (variables_in x))
+    (noted-append [] cs (channels_in x)) (noted-append [] vs (variables_in x))
 
 -- what is first in a list is first with others behind it
 pub first-stop : (xs ys : List CheckStop) (s : CheckStop) → IsFirst xs s → IsFirst (xs ++ ys) s
@@ -77,7 +76,7 @@ module _ (ps : List FlatProcess) (i : ℕ) (d : FlatProcess) (h : i < length ps)
   limits-more =
       ap (beyond_limits (named_before ps i)) (drop_more ps i d h)
       ∙ ap₂ (λ us cs. us ++ beyond_limits cs (drop (i + 1) ps))
-          (along_same (named_before ps i) [] (limited_parts (get_or ps i d))) (sym named-more)
+      (along_same (named_before ps i) [] (limited_parts (get_or ps i d))) (sym named-more)
 
   -- names that are noted further
   pub noted-more : noted [] (named_before ps (i + 1)) ≡ noted (noted [] (named_before ps i)) (channels_named (get_or ps i d))
@@ -95,7 +94,7 @@ module _ (ps : List FlatProcess) (i : ℕ) (d : FlatProcess) (h : i < length ps)
       → IsFirst (over_along names [] (limited_parts (get_or ps i d))) s → IsFirst (beyond_limits [] ps) s
   stop-found s so_far first =
       subst (λ (xs : List CheckStop). IsFirst xs s) (sym (limits-now so_far))
-          (first-stop (over_along names [] (limited_parts (get_or ps i d))) (beyond_limits (named_before ps (i + 1)) (drop (i + 1) ps)) s first)
+      (first-stop (over_along names [] (limited_parts (get_or ps i d))) (beyond_limits (named_before ps (i + 1)) (drop (i + 1) ps)) s first)
 
   pub limits-later : beyond_limits [] ps ≡ beyond_limits (named_before ps i) (drop i ps)
       → over_along names [] (limited_parts (get_or ps i d)) ≡ [] → beyond_limits [] ps ≡ beyond_limits (named_before ps (i + 1)) (drop (i + 1) ps)

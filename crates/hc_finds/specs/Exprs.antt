@@ -1,5 +1,5 @@
 -- What is looked for in expressions and conditions, in the order of the text.
-use Rattle.std.specs.Prelude.{Bool, true, false, ◌&&◌, ◌||◌, ◌==◌, unsigned_abs, List, [], ◌∷◌, ◌++◌, map, flat_map}
+use Rattle.std.specs.Prelude.{Bool, true, false, ◌&&◌, ◌||◌, ◌==◌, unsigned_abs, List, [], ◌∷◌, ◌++◌, map}
 use Rattle.std.specs.List.{list_any}
 use Rattle.hc_frac.specs.declared.place.Place.{Place}
 use Rattle.hc_frac.specs.declared.decimal.Decimal.{Decimal}

@@ -1,5 +1,5 @@
 -- What goes beyond the limits: guards of a choice, channels, variables of a process, nodes of an expression.
-use Rattle.std.specs.Prelude.{ℕ, true, nat_le, nat_lt, List, [], ◌∷◌, ◌++◌, map, length, flat_map}
+use Rattle.std.specs.Prelude.{true, nat_le, nat_lt, List, [], ◌∷◌, ◌++◌, map, length, flat_map}
 use Rattle.hc_frac.specs.declared.place.Place.{Place}
 use Rattle.hc_ast.specs.Bare.{Word}
 use Rattle.hc_ast.specs.declared.stmt.IoTree.{IoTree}

@@ -1,5 +1,5 @@
 -- The parts of a process: where an expression, a condition, a rate or a communication stands, in order.
-use Rattle.std.specs.Prelude.{Bool, true, false, List, [], ◌∷◌, ◌++◌, map, Option, Some, None, if◌then◌else◌}
+use Rattle.std.specs.Prelude.{Bool, List, [], ◌∷◌, ◌++◌, Option, Some, None, if◌then◌else◌}
 use Rattle.std.specs.List.{flat_map}
 use Rattle.hc_frac.specs.declared.place.Place.{Place}
 use Rattle.hc_ast.specs.Bare.{Word}
@@ -7,9 +7,9 @@ use Rattle.hc_ast.specs.declared.expr.ExprTree.{ExprTree}
 use Rattle.hc_ast.specs.declared.expr.CondTree.{CondTree}
 use Rattle.hc_ast.specs.declared.stmt.IoTree.{IoTree}
 use Rattle.hc_ast.specs.declared.stmt.RateTree.{RateTree}
-use Rattle.hc_ast.specs.declared.stmt.StmtKind.TheOpen.{StmtKind-F, StmtTree-F, BranchTree-F}
+use Rattle.hc_ast.specs.declared.stmt.StmtKind.TheOpen.{StmtKind-F, BranchTree-F}
 use Rattle.hc_ast.specs.declared.stmt.StmtTree.{StmtTree, fold-StmtTree}
-use Rattle.hc_ast.specs.declared.stmt.BranchTree.{BranchTree, fold-BranchTree, out-BranchTree}
+use Rattle.hc_ast.specs.declared.stmt.BranchTree.{BranchTree, fold-BranchTree}
 
 -- a part; an expression, a test and a communication stand at their statement's place
 pub data Part : Type 0 where

@@ -1,10 +1,8 @@
 -- Where an expanded source is refused: all that is found, phase after phase.
-use Rattle.std.specs.Prelude.{◌≡◌, true, false, List, [], ◌++◌, map, flat_map}
-use Rattle.hc_modules.specs.declared.flat.Flat.{Flat}
+use Rattle.std.specs.Prelude.{true, false, List, [], ◌++◌, map, flat_map}
 use Rattle.hc_modules.specs.declared.flat.FlatProcess.{FlatProcess}
 use Rattle.hc_finds.specs.declared.stop.CheckStop.{CheckStop}
 use Rattle.hc_finds.specs.declared.stop.CheckStop.TheVariants as stop
-use Rattle.hc_finds.specs.First.{IsFirst}
 use Rattle.hc_finds.specs.Parts.{Part, parts_of}
 use Rattle.hc_finds.specs.Rules.{rules, broken}
 use Rattle.hc_finds.specs.Uses.{Use, uses_of, on_both_ends, shared_ends}
@@ -24,7 +22,3 @@ bad_ends us =
 -- all that is found: beyond the limits, against the rules on parts, and at the ends of channels
 abbrev pub refusals : List FlatProcess → List CheckStop
 refusals ps = beyond_limits [] ps ++ flat_map (λ r. broken r (all_parts ps)) rules ++ bad_ends (map uses_of ps)
-
--- the first phase that finds something finds this first
-abbrev pub IsRefused : List FlatProcess → CheckStop → Type 0
-IsRefused ps s = IsFirst (refusals ps) s

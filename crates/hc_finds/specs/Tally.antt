@@ -1,5 +1,5 @@
 -- The limits as the program counts: from the names that are noted so far.
-use Rattle.std.specs.Prelude.{◌≡◌, nat_lt, List, [], ◌∷◌, ◌++◌, map, length, flat_map}
+use Rattle.std.specs.Prelude.{nat_lt, List, [], ◌∷◌, ◌++◌, map, length, flat_map}
 use Rattle.hc_frac.specs.declared.place.Place.{Place}
 use Rattle.indexmap.specs.IndexSet.{insert_all}
 use Rattle.hc_ast.specs.Bare.{Word}

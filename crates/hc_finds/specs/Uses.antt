@@ -1,5 +1,5 @@
 -- The uses of channels: by which processes they are sent on and received from.
-use Rattle.std.specs.Prelude.{Bool, true, false, not, ◌&&◌, List, [], ◌∷◌, map, flat_map}
+use Rattle.std.specs.Prelude.{Bool, true, false, not, ◌&&◌, List, [], ◌∷◌, flat_map}
 use Rattle.std.specs.List.{list_any}
 use Rattle.hc_frac.specs.declared.place.Place.{Place}
 use Rattle.hc_ast.specs.Bare.{Word}
@@ -8,7 +8,7 @@ use Rattle.hc_ast.specs.declared.stmt.IoTree.TheVariants as io_of
 use Rattle.hc_modules.specs.declared.flat.FlatProcess.{FlatProcess}
 use Rattle.hc_modules.specs.Bindings.{same_word}
 use Rattle.hc_modules.specs.Finds.{only_if, along}
-use Rattle.hc_finds.specs.Parts.{Part, assign, compute, test, communicate, rate, domain, guard, parts_of}
+use Rattle.hc_finds.specs.Parts.{Part, communicate, guard, parts_of}
 
 -- a statement or branch that sends on a channel, or receives from it
 pub record Use : Type 0 where

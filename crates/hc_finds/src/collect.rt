@@ -40,10 +40,7 @@ pub(crate) fn parts_of_all<'a>(
 }
 
 /// The uses of channels by one process.
-fn uses_of_process<'a>(
-    alloc: Global,
-    process: &'a FlatProcess,
-) -> Result<Vec<Use<'a>>, AllocError>
+fn uses_of_process<'a>(alloc: Global, process: &'a FlatProcess) -> Result<Vec<Use<'a>>, AllocError>
     ensures { IfOk result (λ us. uses_seen us.items ≡ uses_of process.now) }
 {
     let parts = parts_of(alloc, false, process.body.as_slice())?;

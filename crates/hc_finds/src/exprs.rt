@@ -161,8 +161,12 @@ pub(crate) fn nought_divisor_in(cond: &CondTree) -> Option<Place>
             before.or(nought_divisor(false, right.get()))
         }
         CondKind::Not(part) => nought_divisor_in(part.get()),
-        CondKind::And(left, right) => nought_divisor_in(left.get()).or(nought_divisor_in(right.get())),
-        CondKind::Or(left, right) => nought_divisor_in(left.get()).or(nought_divisor_in(right.get())),
+        CondKind::And(left, right) => nought_divisor_in(left.get()).or(nought_divisor_in(
+            right.get(),
+        )),
+        CondKind::Or(left, right) => nought_divisor_in(left.get()).or(nought_divisor_in(
+            right.get(),
+        )),
     }
 }
 

@@ -12,5 +12,5 @@ mod rules;
 mod stop;
 mod uses;
 
-pub use limited::{unrefused, Limited};
+pub use limited::{Limited, unrefused};
 pub use stop::{CheckStop, What};

@@ -47,10 +47,7 @@ fn limit_process(
 }
 
 /// The names of all processes, unless something goes beyond a limit.
-pub(crate) fn within_limits(
-    alloc: Global,
-    processes: &[FlatProcess],
-) -> Result<Limited, CheckStop>
+pub(crate) fn within_limits(alloc: Global, processes: &[FlatProcess]) -> Result<Limited, CheckStop>
     ensures ok { IfOk result (λ l. spec.beyond_limits [] processes.now ≡ []) }
     ensures channels { IfOk result (λ l. l.channels.keys ≡ channels_of processes.now) }
     ensures variables { IfOk result (λ l. map (λ s. s.keys) l.variables ≡ map variables_of processes.now) }
@@ -77,10 +74,7 @@ pub(crate) fn within_limits(
 
 /// The names of processes against which nothing is found, or what is found first: of the first phase that finds
 /// something, what it finds first in the text.
-pub fn unrefused(
-    alloc: Global,
-    processes: &[FlatProcess],
-) -> Result<Limited, CheckStop>
+pub fn unrefused(alloc: Global, processes: &[FlatProcess]) -> Result<Limited, CheckStop>
     ensures ok { IfOk result (λ l. refusals processes.now ≡ []) }
     ensures channels { IfOk result (λ l. l.channels.keys ≡ channels_of processes.now) }
     ensures variables { IfOk result (λ l. map (λ s. s.keys) l.variables ≡ map variables_of processes.now) }

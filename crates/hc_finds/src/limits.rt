@@ -11,17 +11,20 @@ ghost use Rattle.hc_finds.specs.Seen.{part_of, seen};
 ghost use Rattle.hc_finds.specs.First.{IsFirst};
 ghost use Rattle.hc_finds.specs.Tally as tally;
 
+use crate::exprs::only_if;
 use crate::names::{note, note_variables};
 use crate::parts::Part;
-use crate::exprs::only_if;
 use crate::stop::{CheckStop, What};
 use hc_ast::{CondKind, CondTree, ExprKind, ExprTree, IoTree};
 use hc_frac::{Name, Place};
 use indexmap::IndexSet;
 
 const MOST_GUARDS: usize = 32;
+
 const MOST_CHANNELS: usize = 256;
+
 const MOST_VARIABLES: usize = 64;
+
 const MOST_NODES: u32 = 200;
 
 /// The nodes of an expression.
@@ -51,11 +54,13 @@ fn nodes_of_cond(cond: &CondTree) -> u32
         CondKind::Not(part) => nodes_of_cond(part.get()).saturating_add(1),
         CondKind::And(left, right) => {
             let left = nodes_of_cond(left.get());
-            left.saturating_add(nodes_of_cond(right.get())).saturating_add(1)
+            left.saturating_add(nodes_of_cond(right.get()))
+                .saturating_add(1)
         }
         CondKind::Or(left, right) => {
             let left = nodes_of_cond(left.get());
-            left.saturating_add(nodes_of_cond(right.get())).saturating_add(1)
+            left.saturating_add(nodes_of_cond(right.get()))
+                .saturating_add(1)
         }
     }
 }

@@ -73,14 +73,15 @@ fn note_io(names: &mut IndexSet<Name>, io: &IoTree) -> Result<(), AllocError>
 }
 
 /// Notes the variables of a part.
-pub(crate) fn note_variables(
-    names: &mut IndexSet<Name>,
-    part: Part<'_>,
-) -> Result<(), AllocError>
+pub(crate) fn note_variables(names: &mut IndexSet<Name>, part: Part<'_>) -> Result<(), AllocError>
     ensures { OnOk result (names.new.keys ≡ with_names names.old.keys (limit.variables_in (part_of part.entry))) }
 {
     match part {
-        Part::Assign { place: _, target, value } => {
+        Part::Assign {
+            place: _,
+            target,
+            value,
+        } => {
             note(names, target)?;
             note_expr(names, value)
         }

@@ -18,11 +18,20 @@ pub enum Part<'a> {
         value: &'a ExprTree,
     },
     /// The time of a wait, or the value of a log.
-    Compute { place: Place, value: &'a ExprTree },
+    Compute {
+        place: Place,
+        value: &'a ExprTree,
+    },
     /// The test of an `if` or a loop.
-    Test { place: Place, test: &'a CondTree },
+    Test {
+        place: Place,
+        test: &'a CondTree,
+    },
     /// A statement that sends or receives.
-    Communicate { place: Place, io: &'a IoTree },
+    Communicate {
+        place: Place,
+        io: &'a IoTree,
+    },
     /// A rate, with all rates of its evolution and those before it.
     Rate {
         all: &'a [RateTree],

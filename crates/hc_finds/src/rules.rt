@@ -208,7 +208,12 @@ fn guarded_again(part: Part<'_>) -> Option<Place>
     ensures { result ≡ slice_get (look.guarded_again (part_of part.entry)) 0 }
 {
     match part {
-        Part::Guard { earlier, place, io, .. } => only_if(is_guarded(earlier, io), place),
+        Part::Guard {
+            earlier,
+            place,
+            io,
+            ..
+        } => only_if(is_guarded(earlier, io), place),
         _ => None,
     }
 }

@@ -37,10 +37,7 @@ fn use_at<'a>(place: Place, io: &'a IoTree) -> Use<'a>
 }
 
 /// The uses in parts, in their order.
-pub(crate) fn uses_in<'a>(
-    alloc: Global,
-    parts: &[Part<'a>],
-) -> Result<Vec<Use<'a>>, AllocError>
+pub(crate) fn uses_in<'a>(alloc: Global, parts: &[Part<'a>]) -> Result<Vec<Use<'a>>, AllocError>
     ensures { IfOk result (λ us. uses_seen us.items ≡ flat_map spec.uses_in (seen parts.now)) }
 {
     let mut uses = Vec::new(alloc);

@@ -1,8 +1,5 @@
-use Rattle.std.proofs.Common.{◌≡◌, ◌++◌, ◌∷◌, [], ◌&&◌, false, flat_map}
-use Rattle.std.proofs.lemmas.Grind.{flat_map-append}
+use Rattle.std.proofs.Common.{◌∷◌}
 use Rattle.hc_finds.specs.Exprs as spec
-use Rattle.hc_finds.specs.Looks.{evolving}
-use Rattle.hc_modules.specs.Finds.{only_if}
 use Rattle.hc_finds.proofs.First.{first-append}
 use Rattle.hc_finds.proofs.ExprForms as form
 use Rattle.hc_finds.proofs.exprs.+mixed_in.Goals as goal

@@ -1,8 +1,7 @@
-use Rattle.std.proofs.Common.{◌≡◌, false, List}
+use Rattle.std.proofs.Common.{false, List}
 use Rattle.hc_frac.specs.declared.place.Place.{Place}
 use Rattle.hc_ast.specs.declared.expr.ExprTree.{ExprTree}
 use Rattle.hc_finds.specs.Exprs as spec
-use Rattle.hc_finds.specs.Looks.{evolving}
 use Rattle.hc_finds.proofs.First.{first-of}
 use Rattle.hc_finds.proofs.ExprForms.{sides-and, sides-or}
 use Rattle.hc_finds.proofs.exprs.+odd_divisor_in.Goals as goal

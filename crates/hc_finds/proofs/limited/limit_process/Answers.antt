@@ -1,4 +1,4 @@
-use Rattle.std.proofs.Common.{rules, ◌≡◌}
+use Rattle.std.proofs.Common.{rules}
 use Rattle.hc_finds.proofs.Noted.{noted-first}
 use Rattle.hc_finds.proofs.limited.limit_process.Goals as goal
 

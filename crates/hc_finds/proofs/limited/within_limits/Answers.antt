@@ -1,11 +1,9 @@
-use Rattle.std.proofs.Common.{rules, arith, ◌≡◌, List, [], subst, sym, ap, ◌∙◌, flat_map, get_or}
+use Rattle.std.proofs.Common.{rules, arith, ◌≡◌, List, [], subst, ap, ◌∙◌, flat_map, get_or}
 use Rattle.std.proofs.lemmas.List.{take_all}
-use Rattle.hc_ast.specs.Bare.{Word}
 use Rattle.hc_modules.specs.declared.flat.FlatProcess.{FlatProcess}
 use Rattle.hc_finds.specs.Names.{first_occurrences}
 use Rattle.hc_finds.specs.Limits.{limited_parts, channels_named}
 use Rattle.hc_finds.specs.Tally.{over_along, with_names}
-use Rattle.hc_finds.specs.Limits.{variables_of}
 use Rattle.hc_finds.proofs.Noted.{noted-first}
 use Rattle.hc_finds.proofs.Tallied.{named_before, stop-found, limits-later, names-later, maps-later}
 use Rattle.hc_finds.proofs.limited.within_limits.Goals as goal
@@ -13,7 +11,7 @@ use Rattle.hc_finds.proofs.limited.within_limits.Goals as goal
 pub returns-in_err-named-clause-stop : goal.returns-in_err-named-clause-stop
 returns-in_err-named-clause-stop c =
     let found = stop-found c.args.processes.now c.loop-process.process-index c.process-item.result (omega arith)
-        c.loop-process.limited.channels.keys c.loop-process.invariant.channels in
+    c.loop-process.limited.channels.keys c.loop-process.invariant.channels in
     search (rules, found)
 
 pub loop-process-preserved : goal.loop-process-preserved

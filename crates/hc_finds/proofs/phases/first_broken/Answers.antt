@@ -1,4 +1,4 @@
-use Rattle.std.proofs.Common.{arith, ◌≡◌, ◌∙◌, sym, List}
+use Rattle.std.proofs.Common.{arith, ◌∙◌, sym, List}
 use Rattle.hc_finds.specs.declared.rules.Rule.{Rule}
 use Rattle.hc_finds.specs.declared.stop.CheckStop.{CheckStop}
 use Rattle.hc_finds.specs.declared.rules.Rule.TheVariants as rule

@@ -1,4 +1,4 @@
-use Rattle.std.proofs.Common.{◌≡◌, ap, sym, ◌∙◌, slice_get}
+use Rattle.std.proofs.Common.{ap, sym, ◌∙◌, slice_get}
 use Rattle.hc_modules.specs.Finds.{only_if}
 use Rattle.hc_finds.specs.Looks as look
 use Rattle.hc_finds.specs.Seen.{part_of}

@@ -1,7 +1,6 @@
-use Rattle.std.proofs.Common.{rules, arith, ◌≡◌, ◌++◌, ap, ◌∙◌, drop, take, slice_get}
-use Rattle.hc_modules.specs.Finds.{along}
+use Rattle.std.proofs.Common.{rules, arith}
 use Rattle.hc_finds.specs.Uses as spec
-use Rattle.hc_finds.specs.Seen.{uses_seen, all_uses}
+use Rattle.hc_finds.specs.Seen.{uses_seen}
 use Rattle.hc_finds.proofs.First.{along-at, first-some, first-none}
 use Rattle.hc_finds.proofs.uses.shared_end.Goals as goal
 

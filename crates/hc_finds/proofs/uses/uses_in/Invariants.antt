@@ -1,4 +1,4 @@
-use Rattle.std.proofs.Common.{◌≡◌, ◌++◌, take, drop, flat_map}
+use Rattle.std.proofs.Common.{◌≡◌, ◌++◌, drop, flat_map}
 use Rattle.hc_finds.specs.Uses as spec
 use Rattle.hc_finds.specs.Seen.{seen, uses_seen}
 use Rattle.hc_finds.proofs.uses.uses_in.Given as goal

@@ -1,6 +1,4 @@
-use Rattle.std.proofs.Common.{◌≡◌, drop, flat_map, List}
-use Rattle.hc_finds.specs.declared.stop.CheckStop.{CheckStop}
-use Rattle.hc_finds.specs.First.{IsFirst}
+use Rattle.std.proofs.Common.{◌≡◌, drop, flat_map}
 use Rattle.hc_finds.specs.Limits as spec
 use Rattle.hc_finds.specs.Tally as tally
 use Rattle.hc_finds.specs.Seen.{seen}

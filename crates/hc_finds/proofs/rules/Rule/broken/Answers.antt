@@ -1,4 +1,4 @@
-use Rattle.std.proofs.Common.{rules, arith, ◌≡◌}
+use Rattle.std.proofs.Common.{rules}
 use Rattle.hc_finds.proofs.Along.{broken-here, broken-later}
 use Rattle.hc_finds.proofs.rules.Rule.broken.Goals as goal
 
