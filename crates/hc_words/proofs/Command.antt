@@ -1,5 +1,5 @@
 -- A command with one more argument; what the command line's parse says.
-use Rattle.std.proofs.Common.{◌≡◌, ap, ap₂, sym, ◌∙◌, ◌==◌, true, false, refl, List, [], ◌∷◌, length, IsTrue, ◌⊎◌, inl, inr, subst}
+use Rattle.std.proofs.Common.{◌≡◌, ap, ap₂, sym, ◌∙◌, true, false, refl, List, [], ◌∷◌, IsTrue, ◌⊎◌, inl, inr, subst}
 use Rattle.clap.specs.declared.builder.arg.Arg.{Arg}
 use Rattle.clap.specs.declared.builder.command.Command.{Command}
 use Rattle.clap.specs.declared.parser.matches.ArgMatches.{ArgMatches}
@@ -12,6 +12,7 @@ use Rattle.clap.specs.declared.error.kind.ErrorKind.{ErrorKind}
 use Rattle.clap.specs.declared.error.kind.ErrorKind.TheVariants as kind
 use Rattle.clap.specs.Matches.{found_of}
 use Rattle.clap.specs.Simple.{App, app_of, with_rule, is_simple, matches_of, HasMatchesOf}
+use Rattle.clap.specs.Takes.{takes}
 use Rattle.clap.specs.Walk.{Text, Rule, rule_of, rows_of}
 use Rattle.clap.proofs.OnLiterals.{clap_on_literals}
 use Rattle.hc_words.specs.Line.{hcsp, is_nothing, is_taken, given_in, given}
@@ -56,3 +57,8 @@ pub refused_of : (app : App) (words texts : List Text) (e : Error) → app ≡ h
 refused_of app words texts e is same has taken =
     let free = ap is_simple_and_free is ∙ is_free_hcsp in
     only_memory (kind_of e) (fault_of app texts) (ap₂ fault_of is same ∙ nothing_in (fault_of hcsp words) taken) (has free)
+
+-- where clap's own test passes, an `Err` is want of memory
+pub passes_of : (app : App) (words texts : List Text) (e : Error) → app ≡ hcsp → texts ≡ words →
+    (takes app texts ≡ true → kind_of e ≡ kind.OutOfMemory) → IsTrue (takes hcsp words) → kind_of e ≡ kind.OutOfMemory
+passes_of app words texts e is same passes taken = passes (ap₂ takes is same ∙ taken)

@@ -1,9 +1,9 @@
 -- What `parse` reads of digits alone.
-use Rattle.std.proofs.Common.{rules, ◌≡◌, ◌<◌, ◌≤◌, ◌^◌, ◌==◌, refl, ap, sym, subst, ◌∙◌, ℕ, Bool, true, false, ◌&&◌, nat_le, List, [], ◌∷◌, length, drop, Option, Some, None, IsTrue, arith, cond, if◌then◌else◌}
+use Rattle.std.proofs.Common.{rules, ◌≡◌, ◌<◌, ◌≤◌, ◌^◌, ◌==◌, refl, ap, sym, subst, ℕ, Bool, true, false, ◌&&◌, nat_le, List, [], ◌∷◌, length, drop, Some, None, arith, cond, if◌then◌else◌}
 use Rattle.std.specs.Char.{is_ascii_digit, digit_value}
 use Rattle.std.specs.List.{list_all}
 use Rattle.std.specs.Str.Parse.{AllDigits, IsNumeral, digits_value, without_leading_plus}
-use Rattle.std.proofs.lemmas.Bool.{and_parts, leb-true, lt-leb}
+use Rattle.std.proofs.lemmas.Bool.{and_parts, leb-true}
 use Rattle.hc_words.specs.Numbers.{is_digits, number_within}
 
 digit_below : (x : ℕ) → is_ascii_digit x ≡ true → digit_value x < 10

@@ -2,3 +2,11 @@ pub mod Command
 pub mod Digits
 pub mod Defaults
 pub mod Asking
+pub mod Rights
+pub mod Uses
+pub mod Steps
+pub mod Options
+pub mod Choices
+pub mod Passing
+pub mod Values
+pub mod InOrder

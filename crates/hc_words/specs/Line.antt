@@ -1,5 +1,5 @@
 -- The command line, as a simple command of `clap`.
-use Rattle.std.specs.Prelude.{Bool, true, false, List, [], ◌∷◌, Option, Some, None, codes}
+use Rattle.std.specs.Prelude.{Bool, true, false, List, [], ◌∷◌, Option, Some, codes}
 use Rattle.clap.specs.declared.builder.action.ArgAction.TheVariants.{SetTrue}
 use Rattle.clap.specs.Walk.{Text, Rule, Row, first_of}
 use Rattle.clap.specs.Simple.{App, new_app, new_rule, with_rule, matches_of}

@@ -4,6 +4,7 @@ ghost use Rattle.std.specs.Prelude.{◌≡◌, false, length, map, IfOk, IsErrOf
 ghost use Rattle.std.specs.String.{string_bytes};
 ghost use Rattle.clap.specs.Matches.{found_of};
 ghost use Rattle.clap.specs.Simple.{app_of};
+ghost use Rattle.clap.specs.Takes.{takes};
 ghost use Rattle.clap.specs.Walk.{rule_of, rows_of};
 ghost use Rattle.hc_words.specs.Line as spec;
 ghost use Rattle.hc_words.specs.Seen.{seen};
@@ -82,6 +83,7 @@ pub(crate) fn read_words<'a>(alloc: Global, words: &'a Vec<String>) -> Result<Gi
     ensures taken { IfOk result (λ _. IsTrue (spec.is_taken (map string_bytes words.now.items))) }
     ensures given { IfOk result (λ given. seen given ≡ spec.given (map string_bytes words.now.items)) }
     ensures refused { IsErrOf result WordsStop.Usage → IsTrue (spec.is_taken (map string_bytes words.now.items)) → ⊥ }
+    ensures passes { IsErrOf result WordsStop.Usage → IsTrue (takes spec.hcsp (map string_bytes words.now.items)) → ⊥ }
 {
     let command = match command(alloc) {
         Ok(command) => command,

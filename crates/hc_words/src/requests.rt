@@ -4,6 +4,7 @@ ghost use Rattle.std.specs.Prelude.{◌≡◌, pos, None, map, IfOk, IfSome, IsE
 ghost use Rattle.std.specs.String.{string_bytes};
 ghost use Rattle.hc_rational.specs.Rational.{whole};
 ghost use Rattle.hc_rational.specs.Words.{Rational};
+ghost use Rattle.hc_words.specs.Order.{AreInOrder};
 ghost use Rattle.hc_words.specs.Requests as spec;
 ghost use Rattle.hc_words.specs.Seen.{seen};
 ghost use Rattle.hc_words.specs.declared.requests.Request as asked;
@@ -57,6 +58,7 @@ pub fn asked_for(alloc: Global, words: &Vec<String>) -> Result<Request, WordsSto
     ensures asked { IfOk result (spec.Ask (map string_bytes words.now.items)) }
     ensures proper { IfOk result spec.MayRun }
     ensures usage { IsErrOf result WordsStop.Usage → (r : asked.Request) → spec.Ask (map string_bytes words.now.items) r → ⊥ }
+    ensures in_order { IsErrOf result WordsStop.Usage → AreInOrder (map string_bytes words.now.items) → ⊥ }
 {
     let given = read_words(alloc, words)?;
     match words.as_slice() {

@@ -1,8 +1,5 @@
-use Rattle.std.proofs.Common.{rules, ◌≡◌, refl, codes}
 use Rattle.std.proofs.lemmas.Result.{IfOk-weaker}
-use Rattle.clap.specs.Simple.{new_app, with_rule}
-use Rattle.hc_words.specs.Line as spec
-use Rattle.hc_words.specs.Line.{hcsp, word_rule, option_rule, flag_rule}
+use Rattle.hc_words.specs.Line.{hcsp}
 use Rattle.hc_words.proofs.Command.{with_one}
 use Rattle.hc_words.proofs.line.command.Goals as goal
 

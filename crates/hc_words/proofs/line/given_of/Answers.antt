@@ -1,4 +1,4 @@
-use Rattle.std.proofs.Common.{rules, ◌≡◌, ◌∙◌, codes}
+use Rattle.std.proofs.Common.{◌∙◌, codes}
 use Rattle.clap.specs.Matches.{found_of}
 use Rattle.clap.proofs.WalkLemmas.{first_value-rows}
 use Rattle.hc_words.proofs.line.given_of.Goals as goal

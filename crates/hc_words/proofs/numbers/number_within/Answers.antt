@@ -1,4 +1,4 @@
-use Rattle.std.proofs.Common.{rules, ◌≡◌, ◌∙◌, arith, sym, ap}
+use Rattle.std.proofs.Common.{◌∙◌, sym, ap}
 use Rattle.hc_words.specs.Numbers.{is_digits}
 use Rattle.hc_words.proofs.Digits.{too_large}
 use Rattle.hc_words.proofs.numbers.number_within.Goals as goal

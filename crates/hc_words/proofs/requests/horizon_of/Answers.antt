@@ -1,4 +1,4 @@
-use Rattle.std.proofs.Common.{rules, ◌≡◌, ◌∙◌, sym, ap, subst, None, Some, Option, option_map}
+use Rattle.std.proofs.Common.{◌≡◌, sym, subst, None, option_map}
 use Rattle.std.specs.Prelude.{IfSome}
 use Rattle.hc_rational.specs.Words.{Rational}
 use Rattle.hc_words.specs.Requests.{IsHorizon}

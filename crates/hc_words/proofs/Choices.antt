@@ -1,0 +1,149 @@
+-- Choices in a row: clap's walk leads through their words, and finds a row for each.
+use Rattle.std.proofs.Common.{◌≡◌, refl, ap, sym, subst, ◌∙◌, ℕ, Bool, true, false, not, List, [], ◌∷◌, ◌++◌, map, Some, None, if◌then◌else◌, append_assoc}
+use Rattle.std.specs.Prelude.{flat_map, fold}
+use Rattle.std.specs.List.{All, list_all}
+use Rattle.std.specs.Str.{bytes_eq}
+use Rattle.std.proofs.lemmas.Bool.{and_from, and_parts}
+use Rattle.std.proofs.lemmas.List.{append-nil}
+use Rattle.std.proofs.lemmas.List.Folds.{list_any-append}
+use Rattle.std.proofs.lemmas.List.Elements.{All-head, All-tail}
+use Rattle.std.proofs.lemmas.Grind.{fold-append}
+use Rattle.clap.specs.Walk.{Held, Row, Rule, Text, Walk, idle, option, has_row, walked}
+use Rattle.clap.specs.Lexer.{long_of}
+use Rattle.clap.specs.Simple.{Shape}
+use Rattle.clap.specs.Takes.{turn_passes, walk_passes}
+use Rattle.hc_words.specs.Order.{Setting, seed, horizon, limit, name_of, Choice, words_of, is_other, are_apart}
+use Rattle.hc_words.proofs.Rights.{BeginsPlain}
+use Rattle.hc_words.proofs.Uses.{row_for}
+use Rattle.hc_words.proofs.Steps.{IsOption, Reached, standing, joined, joined_walked, joined_passes, joined_reached, named, named_walked, named_passes, valued, valued_walked, valued_passes, valued_reached}
+
+-- the walk leads through these words, and finds these rows in all
+pub record Leads (s : Shape) (h : Held) (n : ℕ) (words : List Text) (rows : List Row) : Type 0 where
+  pub place : Held
+  pub walks : fold (walked s.rules []) (standing h idle n) words ≡ standing place idle n
+  pub passes : (rest : List Text) → walk_passes s [] (standing place idle n) rest ≡ true → walk_passes s [] (standing h idle n) (words ++ rest) ≡ true
+  pub reached : Reached s place rows
+
+-- ---- one word passes, and so do those behind it
+
+pub passes_on : (s : Shape) (w after : Walk) (word : Text) (rest : List Text) → turn_passes s [] w word ≡ true → walked s.rules [] w word ≡ after →
+    walk_passes s [] after rest ≡ true → walk_passes s [] w (word ∷ rest) ≡ true
+unfolding walk_passes
+passes_on s w after word rest turn is behind =
+    and_from _ _ turn (ap (λ (v : Walk). walk_passes s [] v rest) is ∙ behind)
+
+-- ---- the words of a choice
+
+long_alone : (k : Setting) → long_of (45 ∷ 45 ∷ name_of k) ≡ Some (name_of k, None)
+long_alone seed = refl
+long_alone horizon = refl
+long_alone limit = refl
+
+long_joined : (k : Setting) (v : Text) → long_of (45 ∷ 45 ∷ name_of k ++ 61 ∷ v) ≡ Some (name_of k, Some v)
+long_joined seed v = refl
+long_joined horizon v = refl
+long_joined limit v = refl
+
+alone_dashes : (k : Setting) → bytes_eq (45 ∷ 45 ∷ name_of k) (45 ∷ 45 ∷ []) ≡ false
+alone_dashes seed = refl
+alone_dashes horizon = refl
+alone_dashes limit = refl
+
+joined_dashes : (k : Setting) (v : Text) → bytes_eq (45 ∷ 45 ∷ name_of k ++ 61 ∷ v) (45 ∷ 45 ∷ []) ≡ false
+joined_dashes seed v = refl
+joined_dashes horizon v = refl
+joined_dashes limit v = refl
+
+-- what is found for a choice
+abbrev pub row_of_choice : Choice → Row
+row_of_choice c = row_for (name_of c.setting) c.value
+
+module _ (s : Shape) (rule : Setting → Rule) (options : (k : Setting) → IsOption s (name_of k) (rule k)) where
+  joined_leads : (k : Setting) (v : Text) (h : Held) (rows : List Row) (n : ℕ) → Reached s h rows → has_row (name_of k) rows ≡ false →
+      Leads s h n ((45 ∷ 45 ∷ name_of k ++ 61 ∷ v) ∷ []) (rows ++ row_for (name_of k) v ∷ [])
+  joined_leads k v h rows n reached none =
+      let word : Text = 45 ∷ 45 ∷ name_of k ++ 61 ∷ v in
+      let o = options k in
+      let walks = joined_walked s (name_of k) (rule k) o h rows reached none n word v (joined_dashes k v) (long_joined k v) in
+      let turn = joined_passes s (name_of k) (rule k) o h rows reached none n word v (joined_dashes k v) (long_joined k v) in
+      record {
+        place = joined s (name_of k) (rule k) o h rows reached none n v;
+        walks = walks;
+        passes = λ rest behind. passes_on s (standing h idle n) _ word rest turn walks behind;
+        reached = joined_reached s (name_of k) (rule k) o h rows reached none n v;
+      }
+
+  apart_leads : (k : Setting) (v : Text) (h : Held) (rows : List Row) (n : ℕ) → BeginsPlain v → Reached s h rows → has_row (name_of k) rows ≡ false →
+      Leads s h n ((45 ∷ 45 ∷ name_of k) ∷ v ∷ []) (rows ++ row_for (name_of k) v ∷ [])
+  apart_leads k [] h rows n plain reached none = absurd plain
+  apart_leads k (x ∷ v) h rows n plain reached none =
+      let word : Text = 45 ∷ 45 ∷ name_of k in
+      let o = options k in
+      let first = named_walked s (name_of k) (rule k) o h rows reached none n word (alone_dashes k) (long_alone k) in
+      let turn = named_passes s (name_of k) (rule k) o h rows reached none n word (alone_dashes k) (long_alone k) in
+      let second = valued_walked s (name_of k) (rule k) o h rows reached none n x v plain in
+      let turn_2 = valued_passes s (name_of k) (rule k) o h rows reached none n x v plain in
+      let middle : Walk = standing (named s (name_of k) (rule k) o h rows reached none n) (option (name_of k)) n in
+      record {
+        place = valued s (name_of k) (rule k) o h rows reached none n (x ∷ v);
+        walks = ap (λ (w : Walk). walked s.rules [] w (x ∷ v)) first ∙ second;
+        passes = λ rest behind. passes_on s (standing h idle n) middle word ((x ∷ v) ∷ rest) turn first
+            (passes_on s middle _ (x ∷ v) rest turn_2 second behind);
+        reached = valued_reached s (name_of k) (rule k) o h rows reached none n (x ∷ v);
+      }
+
+  pub choice_leads : (c : Choice) (h : Held) (rows : List Row) (n : ℕ) → BeginsPlain c.value → Reached s h rows → has_row (name_of c.setting) rows ≡ false →
+      Leads s h n (words_of c) (rows ++ row_of_choice c ∷ [])
+  choice_leads c h rows n plain reached none = go c.is_joined
+    where
+      go : (b : Bool) → Leads s h n (if b then (45 ∷ 45 ∷ name_of c.setting ++ 61 ∷ c.value) ∷ [] else (45 ∷ 45 ∷ name_of c.setting) ∷ c.value ∷ [])
+          (rows ++ row_of_choice c ∷ [])
+      go true = joined_leads c.setting c.value h rows n reached none
+      go false = apart_leads c.setting c.value h rows n plain reached none
+
+-- ---- choices in a row
+
+nothing_leads : (s : Shape) (h : Held) (n : ℕ) (rows : List Row) → Reached s h rows → Leads s h n [] rows
+nothing_leads s h n rows reached = record { place = h; walks = refl; passes = λ rest behind. behind; reached = reached }
+
+both_lead : (s : Shape) (h : Held) (n : ℕ) (xs ys : List Text) (rows more : List Row) (first : Leads s h n xs rows) → Leads s first.place n ys more →
+    Leads s h n (xs ++ ys) more
+both_lead s h n xs ys rows more first second = record {
+  place = second.place;
+  walks = fold-append (walked s.rules []) (standing h idle n) xs ys ∙ ap (λ (w : Walk). fold (walked s.rules []) w ys) first.walks ∙ second.walks;
+  passes = λ rest behind. ap (λ ws. walk_passes s [] (standing h idle n) ws) (append_assoc xs ys rest) ∙ first.passes (ys ++ rest) (second.passes rest behind);
+  reached = second.reached;
+}
+
+-- none of the choices has a row
+abbrev pub are_new : List Row → List Choice → Bool
+are_new rows = list_all (λ c. not (has_row (name_of c.setting) rows))
+
+any_push : (rows : List Row) (r : Row) (id : Text) → has_row id rows ≡ false → bytes_eq r.id id ≡ false → has_row id (rows ++ r ∷ []) ≡ false
+any_push rows r id none other = list_any-append (λ x. bytes_eq x.id id) rows (r ∷ []) ∙ rw (none, other) refl
+
+not_true : (b : Bool) → not b ≡ true → b ≡ false
+not_true true e = cc e
+not_true false e = refl
+
+still_new : (rows : List Row) (c : Choice) (cs : List Choice) → are_new rows cs ≡ true → list_all (is_other c) cs ≡ true →
+    are_new (rows ++ row_of_choice c ∷ []) cs ≡ true
+still_new rows c [] new other = refl
+still_new rows c (d ∷ cs) new other =
+    let here = and_parts (not (has_row (name_of d.setting) rows)) (are_new rows cs) new in
+    let apart = and_parts (is_other c d) (list_all (is_other c) cs) other in
+    let none = any_push rows (row_of_choice c) (name_of d.setting) (not_true _ here.0) (not_true _ apart.0) in
+    and_from _ _ (ap not none) (still_new rows c cs here.1 apart.1)
+
+module _ (s : Shape) (rule : Setting → Rule) (options : (k : Setting) → IsOption s (name_of k) (rule k)) where
+  pub choices_lead : (cs : List Choice) (h : Held) (rows : List Row) (n : ℕ) → All (λ c. BeginsPlain c.value) cs → Reached s h rows →
+      are_new rows cs ≡ true → are_apart cs ≡ true → Leads s h n (flat_map words_of cs) (rows ++ map row_of_choice cs)
+  choices_lead [] h rows n plain reached new apart =
+      subst (λ (more : List Row). Leads s h n [] more) (sym (append-nil rows)) (nothing_leads s h n rows reached)
+  choices_lead (c ∷ cs) h rows n plain reached new apart =
+      let here = and_parts (not (has_row (name_of c.setting) rows)) (are_new rows cs) new in
+      let others = and_parts (list_all (is_other c) cs) (are_apart cs) apart in
+      let first = choice_leads s rule options c h rows n (All-head (λ (d : Choice). BeginsPlain d.value) c cs plain) reached (not_true _ here.0) in
+      let rest = choices_lead cs first.place (rows ++ row_of_choice c ∷ []) n (All-tail (λ (d : Choice). BeginsPlain d.value) c cs plain) first.reached (still_new rows c cs here.1 others.0) others.1 in
+      subst (λ (more : List Row). Leads s h n (words_of c ++ flat_map words_of cs) more) (append_assoc rows (row_of_choice c ∷ []) (map row_of_choice cs))
+      (both_lead s h n (words_of c) (flat_map words_of cs) _ _ first rest)

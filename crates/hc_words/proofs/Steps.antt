@@ -1,0 +1,99 @@
+-- One word, or two, of an option with its value: where the walk stands behind it, and that it passes.
+use Rattle.std.proofs.Common.{◌≡◌, refl, ap, ◌∙◌, ℕ, ◌==◌, true, false, List, [], ◌∷◌, ◌++◌, Some, None}
+use Rattle.std.specs.Str.{bytes_eq}
+use Rattle.std.proofs.lemmas.Bool.{and_from}
+use Rattle.clap.specs.Lexer.{long_of}
+use Rattle.clap.specs.Walk.{Held, Row, Rule, Step, Text, Waiting, Walk, idle, option, positional, after_step, arg_by_id, arg_by_long, takes_values, most_values, has_row, used, settled, settled_rows, reacted, plain_word, word_met, walked}
+use Rattle.clap.specs.Simple.{Shape}
+use Rattle.clap.specs.Takes.{other_passes, settle_passes, step_passes, use_passes, turn_passes}
+use Rattle.hc_words.proofs.Uses.{row_for}
+
+-- the walk stands between two words, neither behind `--` nor in a subcommand
+abbrev pub standing : Held → Waiting → ℕ → Walk
+standing h waiting n = record { held = h; waiting = waiting; position = n; is_trailing = false; stopped = None }
+
+-- the argument is an option with one value
+pub record IsOption (s : Shape) (name : Text) (a : Rule) : Type 0 where
+  pub by_long : arg_by_long s.rules name ≡ Some a
+  pub by_id : arg_by_id s.rules name ≡ Some a
+  pub takes : takes_values a ≡ true
+  pub id : a.id ≡ name
+  pub same : bytes_eq name a.id ≡ true
+  pub most : most_values a ≡ 1
+  pub passes : (v : Text) (rows : List Row) → has_row name rows ≡ false → use_passes s.args_override_self a (v ∷ []) rows ≡ true
+  pub uses : (v : Text) (rows : List Row) → has_row name rows ≡ false → used a (v ∷ []) rows ≡ rows ++ row_for name v ∷ []
+
+-- what is pending passes, and with it these are the rows
+pub record Reached (s : Shape) (h : Held) (rows : List Row) : Type 0 where
+  pub settles : settle_passes s.rules s.args_override_self h ≡ true
+  pub rows_are : settled_rows s.rules h.pending h.rows ≡ rows
+
+-- a word that doesn't begin with `-`
+pub plain_met : (c : List Rule) (waiting : Waiting) (n x : ℕ) (v : Text) (h : Held) → (x == 45) ≡ false →
+    word_met c [] false waiting n (x ∷ v) h ≡ plain_word c waiting (x ∷ v) h
+plain_met c idle n x v h e = simp e
+plain_met c (option id) n x v h e = simp e
+plain_met c positional n x v h e = simp e
+
+-- such a word passes where it is read
+pub plain_passes : (s : Shape) (x : ℕ) (v : Text) (h : Held) → (x == 45) ≡ false → other_passes s None (x ∷ v) h ≡ true
+plain_passes s x v h e = simp e
+
+-- ---- `--name=value`
+
+module _ (s : Shape) (name : Text) (a : Rule) (o : IsOption s name a) (h : Held) (rows : List Row) (reached : Reached s h rows)
+    (none : has_row name rows ≡ false) (n : ℕ) where
+  abbrev pub joined : Text → Held
+  joined v = reacted s.rules a (v ∷ []) h
+
+  pub joined_walked : (word v : Text) → bytes_eq word (45 ∷ 45 ∷ []) ≡ false → long_of word ≡ Some (name, Some v) →
+      walked s.rules [] (standing h idle n) word ≡ standing (joined v) idle n
+  unfolding walked
+  joined_walked word v dashes long = rw (dashes, long, o.by_long, o.takes) refl
+
+  pub joined_passes : (word v : Text) → bytes_eq word (45 ∷ 45 ∷ []) ≡ false → long_of word ≡ Some (name, Some v) →
+      turn_passes s [] (standing h idle n) word ≡ true
+  joined_passes word v dashes long = rw (dashes, long, o.by_long, o.takes, reached.settles, reached.rows_are, o.passes v rows none) refl
+
+  pub joined_reached : (v : Text) → Reached s (joined v) (rows ++ row_for name v ∷ [])
+  joined_reached v = record {
+    settles = refl;
+    rows_are = ap (used a (v ∷ [])) reached.rows_are ∙ o.uses v rows none;
+  }
+
+  -- ---- `--name`, and then its value
+
+  abbrev pub named : Held
+  named = record (settled s.rules h) { pending = Some (name, []) }
+
+  pub named_walked : (word : Text) → bytes_eq word (45 ∷ 45 ∷ []) ≡ false → long_of word ≡ Some (name, None) →
+      walked s.rules [] (standing h idle n) word ≡ standing named (option name) n
+  unfolding walked
+  named_walked word dashes long = rw (dashes, long, o.by_long, o.takes, o.id) refl
+
+  pub named_passes : (word : Text) → bytes_eq word (45 ∷ 45 ∷ []) ≡ false → long_of word ≡ Some (name, None) →
+      turn_passes s [] (standing h idle n) word ≡ true
+  named_passes word dashes long = rw (dashes, long, o.by_long, o.takes, reached.settles) refl
+
+  abbrev pub valued : Text → Held
+  valued v = record (settled s.rules h) { pending = Some (name, v ∷ []) }
+
+  pub valued_walked : (x : ℕ) (v : Text) → (x == 45) ≡ false →
+      walked s.rules [] (standing named (option name) n) (x ∷ v) ≡ standing (valued (x ∷ v)) idle n
+  unfolding walked
+  valued_walked x v e =
+      let value_taken : after_step s.rules (x ∷ v) (standing named (option name) n) (plain_word s.rules (option name) (x ∷ v) named).0 (plain_word s.rules (option name) (x ∷ v) named).1
+      ≡ standing (valued (x ∷ v)) idle n = rw (o.by_id, o.same, o.most) refl in
+      ap (λ (m : Held × Step). after_step s.rules (x ∷ v) (standing named (option name) n) m.0 m.1) (plain_met s.rules (option name) n x v named e) ∙ value_taken
+
+  pub valued_passes : (x : ℕ) (v : Text) → (x == 45) ≡ false →
+      turn_passes s [] (standing named (option name) n) (x ∷ v) ≡ true
+  valued_passes x v e =
+      and_from _ _ (plain_passes s x v named e)
+      (ap (λ (m : Held × Step). step_passes s n m.0 m.1) (plain_met s.rules (option name) n x v named e))
+
+  pub valued_reached : (v : Text) → Reached s (valued v) (rows ++ row_for name v ∷ [])
+  valued_reached v = record {
+    settles = rw (o.by_id, reached.rows_are, o.passes v rows none) refl;
+    rows_are = rw (o.by_id, reached.rows_are) (o.uses v rows none);
+  }

@@ -1,0 +1,140 @@
+-- An action and choices behind it: the matches are the values of the choices.
+use Rattle.std.proofs.Common.{◌≡◌, refl, ap, sym, subst, ◌∙◌, ℕ, ◌==◌, Bool, true, false, List, [], ◌∷◌, ◌++◌, map, drop, take, Option, Some, None, if◌then◌else◌}
+use Rattle.std.specs.Prelude.{codes, fold}
+use Rattle.std.specs.List.{All, list_all}
+use Rattle.std.specs.Str.{bytes_eq}
+use Rattle.std.proofs.lemmas.Bool.{and_parts}
+use Rattle.std.proofs.lemmas.List.Elements.{All-head, All-tail}
+use Rattle.std.proofs.lemmas.Grind.{fold-append}
+use Rattle.clap.specs.declared.builder.value_parser.Reading.TheVariants as reading
+use Rattle.clap.specs.declared.parser.matches.ValueSource.TheVariants.{DefaultValue}
+use Rattle.clap.specs.Walk.{Held, Row, Rule, Text, Walk, default_rows, finished, first_of, has_row, nothing_held, reading_by, walk, with_default}
+use Rattle.clap.specs.Simple.{built, filled, matches_of, names_of}
+use Rattle.clap.proofs.OnLiterals.{clap_on_literals}
+use Rattle.hc_words.specs.Line.{hcsp, flag_rule}
+use Rattle.hc_words.specs.Order.{Setting, seed, horizon, limit, name_of, Choice, IsRight}
+use Rattle.hc_words.proofs.Uses.{row_for, first_values}
+use Rattle.hc_words.proofs.Steps.{Reached}
+use Rattle.hc_words.proofs.Choices.{Leads, row_of_choice}
+use Rattle.hc_words.proofs.Options.{shape}
+use Rattle.hc_words.proofs.Passing.{acting, action_row, all_walked}
+
+-- ---- defaults: the flag alone has one
+
+abbrev pub report_row : Row
+report_row = record {
+  id = codes "report";
+  values = codes "false" ∷ [];
+  count = None;
+  source = Some DefaultValue;
+  reading = reading.AsWritten;
+}
+
+unfoldable report_rule : Rule
+report_rule = filled (flag_rule (codes "report"))
+
+abbrev is_none : List Text → Bool
+is_none [] = true
+is_none (v ∷ vs) = false
+
+either_way : (b : Bool) (rows : List Row) → (if b then rows else rows) ≡ rows
+either_way true rows = refl
+either_way false rows = refl
+
+no_default : (a : Rule) (values : List Text) (rows : List Row) → a.defaults ≡ values → is_none values ≡ true → with_default rows a ≡ rows
+no_default a [] rows is empty =
+    ap (λ (vs : List Text). if has_row a.id rows then rows else default_rows a.id (reading_by a) vs rows) is ∙ either_way (has_row a.id rows) rows
+no_default a (v ∷ vs) rows is empty = cc empty
+
+no_defaults : (rules : List Rule) (rows : List Row) → list_all (λ a. is_none a.defaults) rules ≡ true → fold with_default rows rules ≡ rows
+no_defaults [] rows none = refl
+no_defaults (a ∷ rules) rows none =
+    let both = and_parts (is_none a.defaults) (list_all (λ (b : Rule). is_none b.defaults) rules) none in
+    ap (λ more. fold with_default more rules) (no_default a a.defaults rows refl both.0) ∙ no_defaults rules rows both.1
+
+rules_are : shape.rules ≡ take 7 shape.rules ++ report_rule ∷ drop 8 shape.rules
+unfolding shape report_rule hcsp clap_on_literals
+rules_are = refl
+
+none_before : list_all (λ (a : Rule). is_none a.defaults) (take 7 shape.rules) ≡ true
+unfolding shape hcsp clap_on_literals
+none_before = refl
+
+none_behind : list_all (λ (a : Rule). is_none a.defaults) (drop 8 shape.rules) ≡ true
+unfolding shape hcsp clap_on_literals
+none_behind = refl
+
+flag_default : (rows : List Row) → has_row (codes "report") rows ≡ false → with_default rows report_rule ≡ rows ++ report_row ∷ []
+unfolding report_rule
+flag_default rows none = rw none (first_values (codes "report") reading.AsWritten DefaultValue (codes "false" ∷ []) rows none)
+
+all_defaults : (rows : List Row) → has_row (codes "report") rows ≡ false → fold with_default rows shape.rules ≡ rows ++ report_row ∷ []
+all_defaults rows none =
+    ap (fold with_default rows) rules_are
+    ∙ fold-append with_default rows (take 7 shape.rules) (report_rule ∷ drop 8 shape.rules)
+    ∙ ap (λ more. fold with_default more (report_rule ∷ drop 8 shape.rules)) (no_defaults (take 7 shape.rules) rows none_before)
+    ∙ ap (λ more. fold with_default more (drop 8 shape.rules)) (flag_default rows none)
+    ∙ no_defaults (drop 8 shape.rules) (rows ++ report_row ∷ []) none_behind
+
+-- ---- the matches
+
+rows_finished : (place : Held) (rows : List Row) → Reached shape place rows → has_row (codes "report") rows ≡ false →
+    finished shape.rules place ≡ rows ++ report_row ∷ []
+rows_finished place rows reached none = ap (λ more. fold with_default more shape.rules) reached.rows_are ∙ all_defaults rows none
+
+no_names : names_of (built hcsp) ≡ []
+unfolding hcsp
+no_names = refl
+
+matches_are : (name : Text) (words : List Text) → matches_of hcsp (name ∷ words) ≡ finished shape.rules (walk shape.rules [] nothing_held words).held
+unfolding shape hcsp
+matches_are name words = refl
+
+pub led_matches : (name : Text) (x : ℕ) (v : Text) (words : List Text) (rows : List Row) → (x == 45) ≡ false → Leads shape (acting (x ∷ v)) 2 words rows →
+    has_row (codes "report") rows ≡ false → matches_of hcsp (name ∷ (x ∷ v) ∷ words) ≡ rows ++ report_row ∷ []
+led_matches name x v words rows e led none =
+    matches_are name ((x ∷ v) ∷ words) ∙ ap (λ (w : Walk). finished shape.rules w.held) (all_walked x v words rows e led)
+    ∙ rows_finished led.place rows led.reached none
+
+-- ---- the values of choices
+
+no_row_of : (id : Text) → ((k : Setting) → bytes_eq (name_of k) id ≡ false) → (cs : List Choice) → has_row id (map row_of_choice cs) ≡ false
+no_row_of id other [] = refl
+no_row_of id other (c ∷ cs) = rw (other c.setting) (no_row_of id other cs)
+
+pub passed_over : (id : Text) → ((k : Setting) → bytes_eq (name_of k) id ≡ false) → (cs : List Choice) (tail : List Row) →
+    first_of id (map row_of_choice cs ++ tail) ≡ first_of id tail
+passed_over id other [] tail = refl
+passed_over id other (c ∷ cs) tail = rw (other c.setting) (passed_over id other cs tail)
+
+-- a value that is found is right
+abbrev pub IsRightIn : Setting → Option Text → Type 0
+IsRightIn k None = Unit {0}
+IsRightIn k (Some t) = IsRight k t
+
+one_right : (k j : Setting) (v : Text) (rest : List Row) → IsRight j v → IsRightIn k (first_of (name_of k) rest) →
+    IsRightIn k (first_of (name_of k) (row_for (name_of j) v ∷ rest))
+one_right seed seed v rest right found = right
+one_right seed horizon v rest right found = found
+one_right seed limit v rest right found = found
+one_right horizon seed v rest right found = found
+one_right horizon horizon v rest right found = right
+one_right horizon limit v rest right found = found
+one_right limit seed v rest right found = found
+one_right limit horizon v rest right found = found
+one_right limit limit v rest right found = right
+
+pub all_right : (k : Setting) (cs : List Choice) (tail : List Row) → All (λ c. IsRight c.setting c.value) cs → first_of (name_of k) tail ≡ None →
+    IsRightIn k (first_of (name_of k) (map row_of_choice cs ++ tail))
+all_right k [] tail right none = subst (IsRightIn k) (sym none) tt
+all_right k (c ∷ cs) tail right none =
+    one_right k c.setting c.value (map row_of_choice cs ++ tail) (All-head (λ (d : Choice). IsRight d.setting d.value) c cs right)
+    (all_right k cs tail (All-tail (λ (d : Choice). IsRight d.setting d.value) c cs right) none)
+
+pub not_report : (k : Setting) → bytes_eq (name_of k) (codes "report") ≡ false
+not_report seed = refl
+not_report horizon = refl
+not_report limit = refl
+
+pub no_report : (action : Text) (cs : List Choice) → has_row (codes "report") (action_row action ∷ map row_of_choice cs) ≡ false
+no_report action cs = no_row_of (codes "report") not_report cs
