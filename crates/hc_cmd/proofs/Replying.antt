@@ -26,6 +26,7 @@ use Rattle.hc_words.specs.declared.requests.Settings.{Settings}
 use Rattle.hc_words.specs.Requests.{Ask}
 use Rattle.hc_cmd.specs.declared.refusal.Refusal.{Refusal}
 use Rattle.hc_cmd.specs.declared.refusal.Refusal.TheVariants.{Usage, Unread, Memory, TooLong, NotBuilt, Unparsed, Unexpanded, Unchecked}
+use Rattle.hc_cmd.specs.declared.simulation.Simulation.{Simulation}
 use Rattle.hc_cmd.specs.declared.prepared.Prepared.{Prepared}
 use Rattle.hc_cmd.specs.declared.prepared.Prepared.TheVariants as is
 use Rattle.hc_ast.specs.Counts.{name_too_long, number_unfit, syntax, too_deep, too_many_nodes}
@@ -33,9 +34,9 @@ use Rattle.hc_parse.specs.declared.parsing.ParseStop.{ParseStop}
 use Rattle.hc_parse.specs.declared.parsing.ParseStop.TheVariants as stop
 use Rattle.hc_parse.specs.Stops.{IsStop}
 use Rattle.hc_cmd.specs.Refusals.{refused, status_of, status_of_stop, status_of_module_stop, status_of_check_stop}
-use Rattle.hc_cmd.specs.Replies.{spelled, Accepts, Rejects, unexpanded, unchecked, Simulates, plain, not_plain, Answers, size, simulation, spelling, unparsed, rejected, status_at, simulated, Replies, usage, unread, no_memory, too_long, answered}
+use Rattle.hc_cmd.specs.Replies.{spelled, sized, size_of, Accepts, Rejects, unexpanded, unchecked, Simulates, plain, not_plain, Answers, size, simulation, spelling, unparsed, rejected, status_at, simulated, Replies, usage, unread, no_memory, too_long, answered}
 use Rattle.hc_cmd.specs.Complete.{IsReplyTo, IsComplete}
-use Rattle.hc_cmd.specs.Prepared.{reply_to, IsReady, SimulatesTree}
+use Rattle.hc_cmd.specs.Prepared.{reply_to, simulation_reply, IsReady, IsSimulated, SimulatesTree}
 use Rattle.hc_ast.specs.declared.tree.Tree.{Tree}
 use Rattle.hc_ast.specs.Source.{IsSource}
 
@@ -97,12 +98,71 @@ simulation_gives request text tree settings asked is f (inl e) = inl e
 simulation_gives request text tree settings asked is f (inr (inl s)) = inr (simulates request text tree settings (refused f) asked is s)
 simulation_gives request text tree settings asked is f (inr (inr r)) = inr (rejected (λ e. cc (asked, e)) tree is r)
 
--- what the simulation of a system gives, its tree gives
-pub system_gives : (tree : Tree) (flat : Flat) (system : System) (settings : Settings) → Accepts tree flat system → (f : Refusal) →
-    (refused f ≡ refused Memory) ⊎ Simulates settings system (refused f) →
+-- what isn't accepted isn't simulated
+pub rejected_tree : (tree : Tree) (settings : Settings) (f : Refusal) → (refused f ≡ refused Memory) ⊎ Rejects tree (refused f) →
     (refused f ≡ refused Memory) ⊎ (SimulatesTree tree settings (refused f) ⊎ Rejects tree (refused f))
-system_gives tree flat system settings accepts f (inl e) = inl e
-system_gives tree flat system settings accepts f (inr s) = inr (inl (flat, system, accepts, s))
+rejected_tree tree settings f (inl e) = inl e
+rejected_tree tree settings f (inr r) = inr (inr r)
+
+-- what the simulation of a system gives, its tree gives
+pub system_gives : (tree : Tree) (flat : Flat) (system : System) (settings : Settings) → Accepts tree flat system → (r : Result Simulation Refusal) →
+    MatchResult r (λ s. IsSimulated s × Simulates settings system (simulation_reply s)) (λ f. (refused f ≡ refused Memory) ⊎ Simulates settings system (refused f)) →
+    MatchResult r (λ s. IsSimulated s × SimulatesTree tree settings (simulation_reply s))
+        (λ f. (refused f ≡ refused Memory) ⊎ (SimulatesTree tree settings (refused f) ⊎ Rejects tree (refused f)))
+system_gives tree flat system settings accepts (Ok s) h = (h.0, (flat, system, accepts, h.1))
+system_gives tree flat system settings accepts (Err f) (inl e) = inl e
+system_gives tree flat system settings accepts (Err f) (inr s) = inr (inl (flat, system, accepts, s))
+
+-- bytes that are the line of its size are the reply
+pub sized_so : (flat : Flat) (system : System) (bytes : List ℕ) → bytes ≡ size_of flat system →
+    (let reply : Reply = record { status = 0; out = bytes; err = [] } in reply) ≡ sized flat system
+sized_so flat system bytes e = ap (λ (out : List ℕ). (let reply : Reply = record { status = 0; out = out; err = [] } in reply)) e
+
+unparsed_not_2 : (s : ParseStop) → status_of_stop s ≢ 2
+unparsed_not_2 (stop.NameTooLong p) e = absurd (omega (arith, e))
+unparsed_not_2 (stop.NumberUnfit p) e = absurd (omega (arith, e))
+unparsed_not_2 (stop.Syntax p) e = absurd (omega (arith, e))
+unparsed_not_2 (stop.TooDeep p) e = absurd (omega (arith, e))
+unparsed_not_2 (stop.TooManyNodes p) e = absurd (omega (arith, e))
+unparsed_not_2 stop.Memory e = absurd (omega (arith, e))
+
+unexpanded_not_2 : (s : ModuleStop) → status_of_module_stop s ≢ 2
+unexpanded_not_2 (expanding.RepeatedModule p) e = absurd (omega (arith, e))
+unexpanded_not_2 (expanding.RepeatedParameter p) e = absurd (omega (arith, e))
+unexpanded_not_2 (expanding.ParameterWritten p) e = absurd (omega (arith, e))
+unexpanded_not_2 (expanding.TooManyProcesses p) e = absurd (omega (arith, e))
+unexpanded_not_2 (expanding.RepeatedProcess p) e = absurd (omega (arith, e))
+unexpanded_not_2 (expanding.UnknownModule p) e = absurd (omega (arith, e))
+unexpanded_not_2 (expanding.WrongArgumentCount p) e = absurd (omega (arith, e))
+unexpanded_not_2 (expanding.WrongArgumentKind p) e = absurd (omega (arith, e))
+unexpanded_not_2 (expanding.TooManyStatements p) e = absurd (omega (arith, e))
+unexpanded_not_2 (expanding.TooManyNodes p) e = absurd (omega (arith, e))
+unexpanded_not_2 expanding.Memory e = absurd (omega (arith, e))
+
+unchecked_not_2 : (s : CheckStop) → status_of_check_stop s ≢ 2
+unchecked_not_2 (check.TooMany what p) e = absurd (omega (arith, e))
+unchecked_not_2 (check.DivisorNotLiteral p) e = absurd (omega (arith, e))
+unchecked_not_2 (check.ZeroDivisor p) e = absurd (omega (arith, e))
+unchecked_not_2 (check.RepeatedRate p) e = absurd (omega (arith, e))
+unchecked_not_2 (check.RateEvolves p) e = absurd (omega (arith, e))
+unchecked_not_2 (check.DomainForm p) e = absurd (omega (arith, e))
+unchecked_not_2 (check.NotAffine p) e = absurd (omega (arith, e))
+unchecked_not_2 (check.RepeatedGuard p) e = absurd (omega (arith, e))
+unchecked_not_2 (check.SelfChannel p) e = absurd (omega (arith, e))
+unchecked_not_2 (check.TwoSenders p) e = absurd (omega (arith, e))
+unchecked_not_2 (check.TwoReceivers p) e = absurd (omega (arith, e))
+unchecked_not_2 check.Memory e = absurd (omega (arith, e))
+
+-- status 2 tells of the words alone
+pub usage_alone : (f : Refusal) → status_of f ≡ 2 → f ≡ Usage
+usage_alone Usage e = refl
+usage_alone Unread e = absurd (omega (arith, e))
+usage_alone Memory e = absurd (omega (arith, e))
+usage_alone TooLong e = absurd (omega (arith, e))
+usage_alone NotBuilt e = absurd (omega (arith, e))
+usage_alone (Unparsed s) e = absurd (unparsed_not_2 s e)
+usage_alone (Unexpanded s) e = absurd (unexpanded_not_2 s e)
+usage_alone (Unchecked s) e = absurd (unchecked_not_2 s e)
 
 -- bytes that are the canonical spelling are the reply
 pub spelled_so : (tree : Tree) (bytes : List ℕ) → bytes ≡ canonical_spelling tree →
@@ -206,6 +266,19 @@ module _ {S : Type 0} (left : S → Option (List ℕ)) (faults : S → ℕ) (wor
   reply_not_4 reply (no_memory kept e) h = refused_not_4 Memory (sym (ap (λ (r : Reply). r.status) e) ∙ h)
   reply_not_4 reply (too_long request text asked all long kept e) h = refused_not_4 TooLong (sym (ap (λ (r : Reply). r.status) e) ∙ h)
   reply_not_4 reply (answered request text asked all fits kept a) h = answer_not_4 request text reply a h
+
+  -- what is ready has no status 2
+  at_not_2 : (stop : Stop) → status_at stop ≢ 2
+  at_not_2 Terminated e = absurd (omega (arith, e))
+  at_not_2 Deadlock e = absurd (omega (arith, e))
+  at_not_2 Horizon e = absurd (omega (arith, e))
+  at_not_2 Limit e = absurd (omega (arith, e))
+  at_not_2 (Overflow p) e = absurd (omega (arith, e))
+
+  pub ready_not_2 : (p : Prepared) → (reply_to p).status ≢ 2
+  ready_not_2 (is.Simulation s) e = at_not_2 (canonical s.task).stop e
+  ready_not_2 (is.Size line) e = absurd (omega (arith, e))
+  ready_not_2 (is.Spelling bytes) e = absurd (omega (arith, e))
 
   -- a reply to the source, where the words ask so
   abbrev pub Replied : Reply → Type 0

@@ -1,10 +1,11 @@
 //! What a call writes on output: all that wants memory first, then the writing.
 
-ghost use Rattle.std.specs.Prelude.{◌≡◌, ◌≤◌, ◌⊎◌, length, MatchResult, map};
+ghost use Rattle.std.specs.Prelude.{◌≡◌, ◌≤◌, ◌⊎◌, length, IfErr, IfOk, MatchResult, map};
 ghost use Rattle.std.specs.String.{string_bytes};
 ghost use Rattle.hc_reply.specs.Sinks.{PutsWhole};
 ghost use Rattle.hc_modules.specs.Refusals.{HasText};
 ghost use Rattle.hc_words.specs.declared.requests.Request.TheVariants as asked;
+ghost use Rattle.hc_words.specs.Order.{AreInOrder};
 ghost use Rattle.hc_words.specs.Requests.{MayRun};
 ghost use Rattle.hc_cmd.specs.Prepared.{simulation_reply, IsSimulated, SimulatesTree};
 ghost use Rattle.hc_cmd.specs.Refusals.{refused};
@@ -72,9 +73,10 @@ impl Prepared {
         words: &Vec<String>,
         source: &mut S,
     ) -> Result<Prepared, Refusal>
-        ensures { MatchResult result
+        ensures reply { MatchResult result
             (λ p. IsReady p × Replies S.left S.faults (map string_bytes words.now.items) source.old source.new (reply_to p))
             (λ r. Replies S.left S.faults (map string_bytes words.now.items) source.old source.new (refused r)) }
+        ensures in_order { IfErr result (λ r. AreInOrder (map string_bytes words.now.items) → r ≡ Refusal.Usage → ⊥) }
     {
         let request = match asked_for(alloc, words) {
             Ok(request) => request,
