@@ -1,5 +1,5 @@
 -- Numbering changes no number of nodes of an expression or a condition.
-use Rattle.std.proofs.Common.{rules, ◌≡◌, subst, ℕ, ◌+◌, List}
+use Rattle.std.proofs.Common.{rules, ◌≡◌, subst, List}
 use Rattle.hc_frac.specs.declared.place.Place.{Place}
 use Rattle.hc_ast.specs.Bare.{Word}
 use Rattle.hc_ast.specs.declared.expr.ExprKind.{ExprKind, the_lemmas as expr_lemmas}
