@@ -1,7 +1,6 @@
 -- Names and processes that stand at one place of their lists.
 use Rattle.std.proofs.Common.{◌≡◌, ap, sym, ◌∙◌, subst, ℕ, zero, suc, ◌+◌, ◌<◌, ◌≤◌, List, [], ◌∷◌, ◌++◌, map, take, length, get_or, arith}
 use Rattle.std.proofs.lemmas.List.{get_or-map, take_more, map-append}
-use Rattle.hc_ast.specs.Bare.{Word}
 use Rattle.hc_modules.specs.declared.flat.FlatProcess.{FlatProcess}
 use Rattle.hc_modules.proofs.Induction.{Each}
 use Rattle.hc_finds.specs.Limits.{variables_of}

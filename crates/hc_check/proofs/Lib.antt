@@ -13,7 +13,6 @@ pub mod Numbers
 pub mod EachLists
 pub mod ExprInduction
 pub mod OverForms
-pub mod SameNodes
 pub mod SameStatements
 pub mod SameSizes
 pub mod NamesApart

@@ -1,5 +1,5 @@
 -- The number of a name that isn't there.
-use Rattle.std.proofs.Common.{◌≡◌, ℕ, refl, nat_lt, not, Bool, true, false, cond, List, length, Option, Some, None, arith}
+use Rattle.std.proofs.Common.{◌≡◌, refl, nat_lt, not, Bool, true, false, cond, List, length, Some, None, arith}
 use Rattle.std.proofs.lemmas.List.Sums.{prefix_len-le-length}
 use Rattle.std.specs.List.{position, position_or_len}
 

@@ -27,6 +27,7 @@ use Rattle.hc_check.proofs.EachLists.{both, both_parts, each_both}
 use Rattle.hc_check.proofs.PartFacts.{assign_ruled, compute_ruled, test_ruled, communicate_ruled}
 use Rattle.hc_check.proofs.RuledGuards.{ios, AreClean, guards_ruled, insides}
 use Rattle.hc_check.proofs.RuledEvolutions.{evolution_ruled}
+use Rattle.hc_check.proofs.OverForms as over
 use Rattle.hc_check.proofs.StatementForms as form
 
 module _ (first : Bool) (s : StmtTree) where
@@ -76,22 +77,22 @@ module _ (cs xs : List Word) (first : Bool) where
 
   assign_step : (s : StmtTree) (x : Word) (t : ExprTree) → s.kind ≡ plain.Assign x t → IsRuled s
   assign_step s x t e full clean =
-      ap (is_stmt (length cs) (length xs)) (form.over-Assign cs xs s x t e) ∙ form.ruled-Assign (length cs) (length xs) _ _
+      ap (is_stmt (length cs) (length xs)) (over.over-Assign cs xs s x t e) ∙ form.ruled-Assign (length cs) (length xs) _ _
       ∙ assign_ruled cs xs s.place x t (cleaned s (assign s.place x t ∷ []) (parts-Assign first s x t e) clean).0
 
   wait_step : (s : StmtTree) (t : ExprTree) → s.kind ≡ plain.Wait t → IsRuled s
   wait_step s t e full clean =
-      ap (is_stmt (length cs) (length xs)) (form.over-Wait cs xs s t e) ∙ form.ruled-Wait (length cs) (length xs) _
+      ap (is_stmt (length cs) (length xs)) (over.over-Wait cs xs s t e) ∙ form.ruled-Wait (length cs) (length xs) _
       ∙ compute_ruled cs xs s.place t (cleaned s (compute s.place t ∷ []) (parts-Wait first s t e) clean).0
 
   io_step : (s : StmtTree) (i : IoTree) → s.kind ≡ plain.Io i → IsRuled s
   io_step s i e full clean =
-      ap (is_stmt (length cs) (length xs)) (form.over-Io cs xs s i e) ∙ form.ruled-Io (length cs) (length xs) _
+      ap (is_stmt (length cs) (length xs)) (over.over-Io cs xs s i e) ∙ form.ruled-Io (length cs) (length xs) _
       ∙ communicate_ruled cs xs s.place i (cleaned s (communicate s.place i ∷ []) (parts-Io first s i e) clean).0
 
   log_step : (s : StmtTree) (t : ExprTree) → s.kind ≡ plain.Log t → IsRuled s
   log_step s t e full clean =
-      ap (is_stmt (length cs) (length xs)) (form.over-Log cs xs s t e) ∙ form.ruled-Log (length cs) (length xs) _
+      ap (is_stmt (length cs) (length xs)) (over.over-Log cs xs s t e) ∙ form.ruled-Log (length cs) (length xs) _
       ∙ compute_ruled cs xs s.place t (cleaned s (compute s.place t ∷ []) (parts-Log first s t e) clean).0
 
   when_step : (s : StmtTree) (c : CondTree) (ss : List StmtTree) (no : Option (List StmtTree)) → s.kind ≡ seen.If c ss no
@@ -100,13 +101,13 @@ module _ (cs xs : List Word) (first : Bool) where
       let fulls = both_parts (all_full ss) true (sym (full-If s c ss None e) ∙ full) in
       let here = cleaned s (test s.place c ∷ (parts_of first ss ++ [])) (parts-if first s c ss e) clean in
       let inner = each_both (IsClean cs xs) (parts_of first ss) [] here.1 in
-      is_stmt-If (length cs) (length xs) (stmt_over cs xs s) _ _ _ (form.over-If cs xs s c ss e)
+      is_stmt-If (length cs) (length xs) (stmt_over cs xs s) _ _ _ (over.over-If cs xs s c ss None e)
       ∙ both (both (test_ruled cs xs s.place c here.0) (some_ruled ss f fulls.0 inner.0)) refl
   when_step s c ss (Some rs) e f g full clean =
       let fulls = both_parts (all_full ss) (all_full rs) (sym (full-If s c ss (Some rs) e) ∙ full) in
       let here = cleaned s (test s.place c ∷ (parts_of first ss ++ parts_of first rs)) (parts-else first s c ss rs e) clean in
       let inner = each_both (IsClean cs xs) (parts_of first ss) (parts_of first rs) here.1 in
-      is_stmt-If (length cs) (length xs) (stmt_over cs xs s) _ _ _ (form.over-Else cs xs s c ss rs e)
+      is_stmt-If (length cs) (length xs) (stmt_over cs xs s) _ _ _ (over.over-If cs xs s c ss (Some rs) e)
       ∙ both (both (test_ruled cs xs s.place c here.0) (some_ruled ss f fulls.0 inner.0)) (some_ruled rs g fulls.1 inner.1)
 
   pick_step : (s : StmtTree) (ss rs : List StmtTree) → s.kind ≡ seen.Pick ss rs → Each IsRuled ss → Each IsRuled rs → IsRuled s
@@ -114,18 +115,18 @@ module _ (cs xs : List Word) (first : Bool) where
       let fulls = both_parts (all_full ss) (all_full rs) (sym (full-Pick s ss rs e) ∙ full) in
       let inner = each_both (IsClean cs xs) (parts_of first ss) (parts_of first rs)
       (cleaned s (parts_of first ss ++ parts_of first rs) (parts-pick first s ss rs e) clean) in
-      is_stmt-Pick (length cs) (length xs) (stmt_over cs xs s) _ _ (form.over-Pick cs xs s ss rs e)
+      is_stmt-Pick (length cs) (length xs) (stmt_over cs xs s) _ _ (over.over-Pick cs xs s ss rs e)
       ∙ both (some_ruled ss f fulls.0 inner.0) (some_ruled rs g fulls.1 inner.1)
 
   forever_step : (s : StmtTree) (ss : List StmtTree) → s.kind ≡ seen.Forever ss → Each IsRuled ss → IsRuled s
   forever_step s ss e f full clean =
-      is_stmt-Forever (length cs) (length xs) (stmt_over cs xs s) _ (form.over-Forever cs xs s ss e)
+      is_stmt-Forever (length cs) (length xs) (stmt_over cs xs s) _ (over.over-Forever cs xs s ss e)
       ∙ some_ruled ss f (sym (full-Forever s ss e) ∙ full) (cleaned s (parts_of first ss) (parts-forever first s ss e) clean)
 
   guards_over : (bs : List BranchTree) → ios_in (map (branch_over cs xs) bs) ≡ map (io_over cs xs) (ios (map (guard_of first) bs))
   guards_over [] = refl
   guards_over (b ∷ bs) =
-      ap₂ (λ (i : Io) (is : List Io). i ∷ is) (form.over-branch_io cs xs b ∙ ap (io_over cs xs) (sym (ap (λ (g : Guard). g.io) (guard-is first b))))
+      ap₂ (λ (i : Io) (is : List Io). i ∷ is) (over.io-over-branch cs xs b ∙ ap (io_over cs xs) (sym (ap (λ (g : Guard). g.io) (guard-is first b))))
       (guards_over bs)
 
   branch_bodies : (bs : List BranchTree) → Each (EachBehind IsRuled) bs → IsTrue (list_all is_full_branch bs)
@@ -134,7 +135,7 @@ module _ (cs xs : List Word) (first : Bool) where
   branch_bodies (b ∷ bs) f full clean =
       let fulls = both_parts (is_full_branch b) (list_all is_full_branch bs) full in
       let inside = subst (λ (ps : List Part). AllClean ps) (ap (λ (g : Guard). g.inside) (guard-is first b)) clean.0 in
-      both (ap (list_all (is_stmt (length cs) (length xs))) (form.over-branch_body cs xs b)
+      both (ap (list_all (is_stmt (length cs) (length xs))) (over.body-over-branch cs xs b)
       ∙ all_ruled (out-BranchTree b).body f.0 (body_full b fulls.0) inside)
       (branch_bodies bs f.1 fulls.1 clean.1)
 
@@ -147,7 +148,7 @@ module _ (cs xs : List Word) (first : Bool) where
   choice_step s bs e f full clean =
       let fulls = both_parts (nat_le 1 (length bs)) (list_all is_full_branch bs) (sym (full-Choice s bs e) ∙ full) in
       let guards : AreClean cs xs [] [] (map (guard_of first) bs) = cleaned s (guards_from [] [] (map (guard_of first) bs)) (parts-choice first s bs e) clean in
-      is_stmt-Choice (length cs) (length xs) (stmt_over cs xs s) (map (branch_over cs xs) bs) (form.over-Choice cs xs s bs e)
+      is_stmt-Choice (length cs) (length xs) (stmt_over cs xs s) (map (branch_over cs xs) bs) (over.over-Choice cs xs s bs e)
       ∙ both (both (ap (nat_le 1) (length-map bs (branch_over cs xs)) ∙ fulls.0) (branches_guarded [] bs guards))
       (branch_bodies bs f fulls.1 (insides cs xs [] [] (map (guard_of first) bs) guards))
 
@@ -158,7 +159,7 @@ module _ (cs xs : List Word) (first : Bool) where
       let here = each_both (IsClean cs xs) (rates_from rs [] rs) (domain rs s.place c ∷ guards_from rs [] (map (guard_of first) bs))
       (cleaned s (rates_from rs [] rs ++ domain rs s.place c ∷ guards_from rs [] (map (guard_of first) bs)) (parts-evolve first s rs c bs e) clean) in
       let guards : AreClean cs xs rs [] (map (guard_of first) bs) = here.1.1 in
-      is_stmt-Evolve (length cs) (length xs) (stmt_over cs xs s) _ _ (map (branch_over cs xs) bs) (form.over-Evolve cs xs s rs c bs e)
+      is_stmt-Evolve (length cs) (length xs) (stmt_over cs xs s) _ _ (map (branch_over cs xs) bs) (over.over-Evolve cs xs s rs c bs e)
       ∙ both (both (ap (is_evolution (length xs) (map (rate_over xs) rs) (cond_over xs c)) (guards_over bs)
       ∙ evolution_ruled cs xs rs s.place c (map (guard_of first) bs) fulls.0 here.0 here.1.0 guards)
       (branches_guarded rs bs guards))
@@ -177,12 +178,12 @@ module _ (cs xs : List Word) (first : Bool) where
   loop_step : (s : StmtTree) (c : CondTree) (ss : List StmtTree) → s.kind ≡ seen.Loop c ss → Each (IsRuled cs xs first) ss → IsRuled cs xs first s
   loop_step s c ss e f full clean =
       let here = loop_clean cs xs first s c ss e clean in
-      is_stmt-Loop (length cs) (length xs) (stmt_over cs xs s) _ _ (form.over-Loop cs xs s c ss e)
+      is_stmt-Loop (length cs) (length xs) (stmt_over cs xs s) _ _ (over.over-Loop cs xs s c ss e)
       ∙ both (test_ruled cs xs s.place c here.0) (some_ruled cs xs first ss f (sym (full-Loop s c ss e) ∙ full) here.1)
 
   steps : Steps (IsRuled cs xs first)
   steps = record {
-    skip = λ s e full clean. ap (is_stmt (length cs) (length xs)) (form.over-Skip cs xs s e) ∙ form.ruled-Skip (length cs) (length xs);
+    skip = λ s e full clean. ap (is_stmt (length cs) (length xs)) (over.over-Skip cs xs s e) ∙ form.ruled-Skip (length cs) (length xs);
     assign = assign_step cs xs first;
     wait = wait_step cs xs first;
     io = io_step cs xs first;

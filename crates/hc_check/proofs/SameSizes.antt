@@ -1,7 +1,6 @@
 -- Numbering changes no number of statements and no number of nodes.
 use Rattle.std.proofs.Common.{rules, arith, ◌≡◌, refl, ap, sym, ◌∙◌, ℕ, ◌+◌, List, [], ◌∷◌, ◌++◌, map, flat_map, sum_by, Option, Some, None}
-use Rattle.std.proofs.lemmas.List.Sums.{sum-map, sum_by-cons, sum_by-append}
-use Rattle.std.proofs.lemmas.List.{append-nil}
+use Rattle.std.proofs.lemmas.List.Sums.{sum_by-cons, sum_by-append}
 use Rattle.std.proofs.lemmas.List.Folds.{flat_map-map}
 use Rattle.hc_ast.specs.Bare.{Word}
 use Rattle.hc_ast.specs.declared.expr.ExprTree.{ExprTree}
@@ -33,7 +32,7 @@ use Rattle.hc_finds.specs.Limits.{variables_of}
 use Rattle.hc_finds.specs.Names.{number_in}
 use Rattle.hc_check.specs.Numbered.{expr_over, cond_over, rate_over, io_over, stmt_over, branch_over, process_over}
 use Rattle.hc_check.proofs.OverForms.{else_over, over-Skip, over-Assign, over-Wait, over-Io, over-Log, over-If, over-Pick, over-Forever, over-Loop, over-Choice, over-Evolve, io-over-branch, body-over-branch}
-use Rattle.hc_check.proofs.SameNodes.{nodes_same, cond_nodes_same}
+use Rattle.hc_check.proofs.NumberedSizes.{nodes_same, cond_nodes_same}
 use Rattle.hc_check.proofs.SameStatements as counts
 
 -- the nodes of a row of statements, of an else part, of branches, of rates

@@ -1,13 +1,12 @@
 -- Numbering changes no number of statements.
 use Rattle.std.proofs.Common.{rules, arith, ◌≡◌, refl, ap, sym, ◌∙◌, ℕ, ◌+◌, List, [], ◌∷◌, map, sum_by, Option, Some, None}
-use Rattle.std.proofs.lemmas.List.Sums.{sum-map, sum_by-cons}
+use Rattle.std.proofs.lemmas.List.Sums.{sum_by-cons}
 use Rattle.hc_ast.specs.Bare.{Word}
-use Rattle.hc_ast.specs.declared.expr.CondTree.{CondTree}
 use Rattle.hc_ast.specs.declared.stmt.StmtTree.{StmtTree}
 use Rattle.hc_ast.specs.declared.stmt.BranchTree.{BranchTree, out-BranchTree}
 use Rattle.hc_ast.specs.declared.stmt.StmtKind.{the_lemmas}
-use Rattle.hc_term.specs.declared.stmt.Stmt.{Stmt, the_lemmas as stmt_lemmas}
-use Rattle.hc_term.specs.declared.stmt.Branch.{Branch, out-Branch}
+use Rattle.hc_term.specs.declared.stmt.Stmt.{the_lemmas as stmt_lemmas}
+use Rattle.hc_term.specs.declared.stmt.Branch.{out-Branch}
 use Rattle.hc_term.specs.Rules as numbered
 use Rattle.hc_term.proofs.Sizes as forms
 use Rattle.hc_modules.specs.declared.flat.FlatProcess.{FlatProcess}

@@ -1,5 +1,5 @@
 -- What the system of an expanded source is, and where an expanded source has none.
-use Rattle.std.specs.Prelude.{◌≡◌, List, [], map, slice_get, Some, Result, Ok, Err}
+use Rattle.std.specs.Prelude.{◌≡◌, [], map, slice_get, Some, Result, Ok, Err}
 use Rattle.hc_modules.specs.declared.flat.Flat.{Flat}
 use Rattle.hc_term.specs.declared.system.System.{System}
 use Rattle.hc_finds.specs.declared.stop.CheckStop.{CheckStop}

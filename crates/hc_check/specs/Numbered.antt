@@ -1,5 +1,5 @@
 -- The system of an expanded source: its names by their numbers, its numbers as fractions.
-use Rattle.std.specs.Prelude.{ℕ, ◌^◌, List, [], map, flat_map, Option, Some, None}
+use Rattle.std.specs.Prelude.{◌^◌, List, [], map, Option, Some, None}
 use Rattle.hc_frac.specs.Words.{quotient}
 use Rattle.hc_frac.specs.declared.decimal.Decimal.{Decimal}
 use Rattle.hc_ast.specs.Bare.{Word}

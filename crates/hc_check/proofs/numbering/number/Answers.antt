@@ -1,4 +1,3 @@
-use Rattle.std.proofs.Common.{rules, ◌≡◌}
 use Rattle.hc_modules.specs.Bindings.{same_word}
 use Rattle.hc_check.proofs.Positions.{position-none}
 use Rattle.hc_check.proofs.numbering.number.Goals as goal
