@@ -1,0 +1,100 @@
+//! What a process keeps between its steps.
+
+ghost use Rattle.std.specs.Prelude.{◌≡◌, ◌≤◌, ◌<◌, length, take, IsTrue};
+ghost use Rattle.hc_step.specs.Usable.{is_usable_code};
+
+use crate::look::{Move, look_arrived, look_at, takes_left};
+use hc_code::ProcCode;
+use hc_frac::Frac;
+use hc_term::{Mark, Phase, Post, StretchEnd, Unfit};
+
+/// What a process keeps: its place in its code, its variables, the number of its choices modulo 64, whether it has
+/// arrived, and what it shows to the others.
+#[derive(Drop)]
+pub struct Local {
+    process: u32,
+    variables: u32,
+    place: u32,
+    choices: u32,
+    store: [Frac; 64],
+    mark: Mark,
+    post: Post,
+    pub ghost few: { variables ≤ 64 },
+    pub ghost low: { choices < 64 },
+}
+
+/// How many silent steps were taken, and why no more.
+#[derive(Clone, Copy, Debug, PartialEq, Eq)]
+pub struct Stretch {
+    pub steps: u32,
+    pub end: StretchEnd,
+}
+
+impl Local {
+    ghost use Rattle.hc_rational.specs.Words.{Rational};
+    ghost use Rattle.hc_term.specs.declared.model.ProcessState.{ProcessState};
+    ghost use Rattle.hc_term.specs.Process.{wants};
+    ghost use Rattle.hc_term.specs.Silent.{silent};
+    ghost use Rattle.hc_code.specs.Stands.{Table, AllAgree};
+    ghost use Rattle.hc_step.specs.Represents.{Represents, Sees};
+
+    /// The place in the code.
+    pub fn place(&self) -> u32
+        ensures { result ≡ self.now.place }
+    {
+        self.place
+    }
+
+    /// The values of the variables.
+    pub fn store(&self) -> &[Frac]
+        ensures values { result.now ≡ take self.now.variables self.now.store }
+        ensures count { length result.now ≡ self.now.variables }
+    {
+        &self.store[..self.variables as usize]
+    }
+
+    /// The number of internal choices taken, modulo 64.
+    pub fn choices(&self) -> u32
+        ensures { result ≡ self.now.choices }
+    {
+        self.choices
+    }
+
+    /// What the process shows to the others.
+    pub fn post(&self) -> &Post
+        ensures { result.now ≡ self.now.post }
+    {
+        &self.post
+    }
+
+    /// Whether the process has a silent step, be it one whose working values don't fit.
+    pub fn able(&self) -> bool
+        ensures { (t : Table) (clock : Rational) (q : ProcessState) → Represents t clock self.now q → result ≡ wants q }
+    {
+        match self.post.phase {
+            Phase::Going => true,
+            Phase::Ended => false,
+            Phase::Arrived => match self.post.bound {
+                Some(bound) => bound.is_zero(),
+                None => false,
+            },
+        }
+    }
+
+    /// The silent step, looked at before it is taken.
+    fn look(&self, code: &ProcCode, clock: Frac, seed: u64) -> Result<Option<Move>, Unfit>
+        requires usable { IsTrue (is_usable_code self.now.variables code.now.instrs) }
+        requires within { self.now.place < length code.now.instrs }
+        ensures { (t : Table) (q : ProcessState) → AllAgree t code.now.instrs t → Represents t clock self.now q →
+            Sees t q (silent seed self.now.process clock q) result }
+    {
+        let instr = code.at(self.place);
+        match self.mark {
+            Mark::Going => {
+                let is_left = takes_left(seed, self.process, self.choices);
+                look_at(instr, self.store(), clock, is_left)
+            }
+            Mark::Arrived { left: _ } => Ok(look_arrived(instr, self.post.bound)),
+        }
+    }
+}
