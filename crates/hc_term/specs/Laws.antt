@@ -1,6 +1,8 @@
 -- What holds of every task.
-use Rattle.std.specs.Prelude.{◌≡◌, ◌≢◌, ◌<◌, ◌≤◌, ℕ, ◌-◌, List, ◌++◌, length, slice_get, Option, Some, None, ◌⊎◌}
+use Rattle.std.specs.Prelude.{◌≡◌, ◌≢◌, ◌<◌, ◌≤◌, ℕ, ◌-◌, List, ◌++◌, length, IsTrue, slice_get, Option, Some, None, ◌⊎◌}
 use Rattle.hc_rational.specs.Words.{Rational, ◌≤ℚ◌}
+use Rattle.hc_term.specs.declared.expr.Expr.{Expr}
+use Rattle.hc_term.specs.declared.expr.Cond.{Cond}
 use Rattle.hc_term.specs.declared.task.Task.{Task}
 use Rattle.hc_term.specs.declared.run.Step.{Step}
 use Rattle.hc_term.specs.declared.run.Step.TheVariants.{Silent, Comm}
@@ -10,6 +12,9 @@ use Rattle.hc_term.specs.declared.run.Stop.TheVariants.{Horizon}
 use Rattle.hc_term.specs.declared.model.ProcessState.{ProcessState}
 use Rattle.hc_term.specs.declared.model.Meeting.{Meeting}
 use Rattle.hc_term.specs.declared.model.Configuration.{Configuration}
+use Rattle.hc_term.specs.Value.{Store, is_defined, is_defined_test}
+use Rattle.hc_term.specs.Motion.{Rates, form}
+use Rattle.hc_term.specs.EndMoment.{is_domain}
 use Rattle.hc_term.specs.Posts.{Took}
 use Rattle.hc_term.specs.Step.{opening, ready, passing, delayed, Meets, StepTo, IsRun, Leads}
 use Rattle.hc_term.specs.Stop.{StopsAt, IsBehaviour}
@@ -102,3 +107,13 @@ abbrev pub CanonicalByEvents : Type 0
 CanonicalByEvents =
     (room : ℕ) (t : Task) (p : ℕ) (c : Configuration) → ready t c ≡ None → wanting_from 0 c.processes ≡ Some p →
     BeginsWith room t c (event room t p c)
+
+-- ---- expressions
+
+-- an expression whose divisors are numbers other than 0 divides by 0 in no store
+abbrev pub AffineIsDefined : Type 0
+AffineIsDefined = (s : Store) (r : Rates) (e : Expr) → IsTrue (form r e).affine → IsTrue (is_defined s e)
+
+-- so does a condition
+abbrev pub DomainIsDefined : Type 0
+DomainIsDefined = (s : Store) (r : Rates) (c : Cond) → IsTrue (is_domain r c) → IsTrue (is_defined_test s c)

@@ -2,7 +2,7 @@
 use Rattle.std.specs.Prelude.{Bool, true, false, not, ◌&&◌, ◌||◌, List, slice_index_or}
 use Rattle.std.specs.declared.cmp.Ordering.{Ordering}
 use Rattle.std.specs.declared.cmp.Ordering.TheVariants as side
-use Rattle.hc_rational.specs.Words.{Rational, zero_ℚ, ◌+ℚ◌, ◌-ℚ◌, ◌*ℚ◌, ◌/ℚ◌, neg_ℚ, rank, fits}
+use Rattle.hc_rational.specs.Words.{Rational, zero_ℚ, ◌+ℚ◌, ◌-ℚ◌, ◌*ℚ◌, ◌/ℚ◌, neg_ℚ, rank, fits, is_zero}
 use Rattle.hc_term.specs.declared.expr.Op.{Op}
 use Rattle.hc_term.specs.declared.expr.Op.TheVariants.{Add, Sub, Mul, Div}
 use Rattle.hc_term.specs.declared.expr.Comparison.{Comparison}
@@ -55,6 +55,31 @@ work s e = fold-Expr Work (work_layer s) e
 abbrev pub is_fitting : Store → Expr → Bool
 is_fitting s e = (work s e).fits_all
 
+-- a value, and whether no part of its expression divides by 0
+pub record Division : Type 0 where
+  pub value : Rational
+  pub is_defined : Bool
+
+abbrev pub divides_by_zero : Op → Rational → Bool
+divides_by_zero Div r = is_zero r
+divides_by_zero _ r = false
+
+abbrev pub division_layer : Store → Expr-F Division → Division
+division_layer s (Expr-F.Number q) = record { value = q; is_defined = true }
+division_layer s (Expr-F.Variable x) = record { value = slice_index_or s x zero_ℚ; is_defined = true }
+division_layer s (Expr-F.Neg a) = record { value = neg_ℚ a.value; is_defined = a.is_defined }
+division_layer s (Expr-F.Binary op a b) = record {
+  value = applied op a.value b.value;
+  is_defined = a.is_defined && b.is_defined && not (divides_by_zero op b.value);
+}
+
+abbrev pub division : Store → Expr → Division
+division s e = fold-Expr Division (division_layer s) e
+
+-- whether the value of every divisor in the expression is other than 0
+abbrev pub is_defined : Store → Expr → Bool
+is_defined s e = (division s e).is_defined
+
 -- the answer of a comparison, by how its left side lies to its right side
 abbrev pub answer : Comparison → Ordering → Bool
 answer Less side.Less = true
@@ -100,6 +125,18 @@ fitting_layer s (Cond-F.Compare how a b) = is_fitting s a && is_fitting s b
 fitting_layer s (Cond-F.Not c) = c
 fitting_layer s (Cond-F.And b c) = b && c
 fitting_layer s (Cond-F.Or b c) = b && c
+
+abbrev pub defined_layer : Store → Cond-F Bool → Bool
+defined_layer s Cond-F.True = true
+defined_layer s Cond-F.False = true
+defined_layer s (Cond-F.Compare how a b) = is_defined s a && is_defined s b
+defined_layer s (Cond-F.Not c) = c
+defined_layer s (Cond-F.And b c) = b && c
+defined_layer s (Cond-F.Or b c) = b && c
+
+-- whether the value of every divisor in the condition is other than 0
+abbrev pub is_defined_test : Store → Cond → Bool
+is_defined_test s c = fold-Cond Bool (defined_layer s) c
 
 -- whether the values of all parts of the condition fit, which is evaluated whole
 abbrev pub is_fitting_test : Store → Cond → Bool

@@ -3,9 +3,7 @@
 ghost use Rattle.std.specs.Prelude.{◌≡◌, ◌≢◌, ◌≤◌, [], pos, length, true, IsTrue, IfOk};
 ghost use Rattle.hc_rational.specs.Words.{fits};
 ghost use Rattle.hc_term.specs.declared.expr.Op.TheVariants.{Div};
-ghost use Rattle.hc_term.specs.Value.{work, applied, answer};
-ghost use Rattle.hc_term.specs.Motion.{form};
-ghost use Rattle.hc_term.specs.EndMoment.{is_domain};
+ghost use Rattle.hc_term.specs.Value.{work, applied, answer, division, is_defined, is_defined_test};
 ghost use Rattle.hc_term.specs.Profile.{reach, reach_in};
 ghost use Rattle.hc_term.specs.Evaluated.{if_fitting, value_in, truth_in};
 
@@ -14,23 +12,23 @@ use hc_frac::Frac;
 use std::cmp::Ordering;
 
 /// The value of an expression in this store, or `Unfit` exactly where the value of some part doesn't fit a fraction.
-/// The store has all its variables, and its divisors are numbers other than 0.
+/// The store has all its variables, and no divisor's value is 0.
 pub fn value(expr: &Expr, store: &[Frac]) -> Result<Frac, Unfit>
     requires in_range { reach expr.now ≤ length store.now }
-    requires divisors { IsTrue (form [] expr.now).affine }
+    requires divisors { IsTrue (is_defined store.now expr.now) }
     ensures { result ≡ value_in store.now expr.now }
 {
     evaluated(expr, store)
 }
 
-/// The same, with what the recursion needs to know: the value is the one that the parts are worked from, and that of
-/// a divisor isn't 0.
+/// The same, with what the recursion needs to know: the value is the one that the parts are worked from, by which a
+/// divisor is judged.
 fn evaluated(expr: &Expr, store: &[Frac]) -> Result<Frac, Unfit>
     requires in_range { reach expr.now ≤ length store.now }
-    requires divisors { IsTrue (form [] expr.now).affine }
+    requires divisors { IsTrue (is_defined store.now expr.now) }
     ensures answer { result ≡ value_in store.now expr.now }
     ensures worked { IfOk result (λ q. q ≡ (work store.now expr.now).value) }
-    ensures divisor { IfOk result (λ q. (form [] expr.now).divides ≡ true → q.num ≢ pos 0) }
+    ensures judged { IfOk result (λ q. q ≡ (division store.now expr.now).value) }
 {
     match expr {
         Expr::Number(number) => Ok(*number),
@@ -66,10 +64,10 @@ fn combined(op: Op, left: Frac, right: Frac) -> Result<Frac, Unfit>
 }
 
 /// The truth of a condition in this store, or `Unfit` exactly where the value of some part doesn't fit a fraction: it
-/// is evaluated whole. The store has all its variables, and its divisors are numbers other than 0.
+/// is evaluated whole. The store has all its variables, and no divisor's value is 0.
 pub fn holds(cond: &Cond, store: &[Frac]) -> Result<bool, Unfit>
     requires in_range { reach_in cond.now ≤ length store.now }
-    requires divisors { IsTrue (is_domain [] cond.now) }
+    requires divisors { IsTrue (is_defined_test store.now cond.now) }
     ensures { result ≡ truth_in store.now cond.now }
 {
     match cond {

@@ -1,6 +1,6 @@
 //! Laws of the definitions.
 
-ghost use Rattle.hc_term.specs.Laws.{CanonicalIsBehaviour, GoesOnOrStops, SilentStepsCommute, SilentAndCommCommute, DelaysKeepQuiet, EventIsRun, OpeningIsQuiet, EventsEndQuiet, CanonicalByEvents, RunIsPrefix, ClockKeepsHorizon, HorizonIsReached, MeetingsJoinTwo, MeetingsAreUnique};
+ghost use Rattle.hc_term.specs.Laws.{CanonicalIsBehaviour, GoesOnOrStops, SilentStepsCommute, SilentAndCommCommute, DelaysKeepQuiet, EventIsRun, OpeningIsQuiet, EventsEndQuiet, CanonicalByEvents, RunIsPrefix, ClockKeepsHorizon, HorizonIsReached, MeetingsJoinTwo, MeetingsAreUnique, AffineIsDefined, DomainIsDefined};
 
 /// What holds of every task. There is nothing to run: the clauses are the laws.
 pub fn runs()
@@ -26,4 +26,10 @@ pub fn events()
     ensures opening_quiet { OpeningIsQuiet }
     ensures end_quiet { EventsEndQuiet }
     ensures canonical { CanonicalByEvents }
+{}
+
+/// What holds of every expression and condition. There is nothing to run: the clauses are the laws.
+pub fn expressions()
+    ensures defined { AffineIsDefined }
+    ensures defined_test { DomainIsDefined }
 {}

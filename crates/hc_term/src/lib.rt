@@ -18,7 +18,7 @@ mod task;
 pub use evaluation::{holds, value};
 pub use expr::{Comparison, Cond, Expr, Op};
 pub use form::{Form, form_of, is_affine};
-pub use laws::{events, runs, runs_from_opening};
+pub use laws::{events, expressions, runs, runs_from_opening};
 pub use model::{Configuration, Mark, Meeting, ProcessState};
 pub use post::{Moving, Offer, Phase, Post};
 pub use run::{Item, Step, Stop, StretchEnd, Unfit};
