@@ -1,5 +1,5 @@
 -- Where nothing evolves, the line of an expression is level.
-use Rattle.std.proofs.Common.{rules, ◌≡◌, ◌≢◌, refl, sym, ap, ap₂, ◌∙◌, Bool, ◌&&◌, IsTrue, [], pos}
+use Rattle.std.proofs.Common.{rules, ◌≡◌, ◌≢◌, refl, sym, ap, ap₂, ◌∙◌, Bool, true, ◌&&◌, IsTrue, [], pos}
 use Rattle.std.specs.declared.cmp.Ordering.{Ordering}
 use Rattle.hc_rational.specs.Words.{Rational, ◌+ℚ◌, ◌-ℚ◌, ◌*ℚ◌, ◌/ℚ◌, neg_ℚ, rank, fits}
 use Rattle.hc_rational.specs.Rational.{zero_ℚ}
@@ -10,7 +10,7 @@ use Rattle.hc_term.specs.declared.expr.Op.TheVariants.{Add, Sub, Mul, Div}
 use Rattle.hc_term.specs.declared.expr.Expr.{Expr, the_lemmas}
 use Rattle.hc_term.specs.declared.expr.Expr.TheViews as seen
 use Rattle.hc_term.specs.Value.{Store, work, applied, is_fitting}
-use Rattle.hc_term.specs.Motion.{line, slope_by, product_slope}
+use Rattle.hc_term.specs.Motion.{line, slope_by, product_slope, form, allowed}
 use Rattle.hc_code.proofs.Growing.{second_of}
 
 neg_line : (s : Store) (e a : Expr) → e ≡ seen.Neg a → (line s [] e).slope ≡ neg_ℚ (line s [] a).slope
@@ -23,6 +23,16 @@ binary_line s e op a b h = search (rules, the_lemmas)
 binary_fits : (s : Store) (e : Expr) (op : Op) (a b : Expr) → e ≡ seen.Binary op a b →
     is_fitting s e ≡ (is_fitting s a && is_fitting s b && fits (applied op (work s a).value (work s b).value))
 binary_fits s e op a b h = search (rules, the_lemmas)
+
+affine-Binary : (e : Expr) (op : Op) (a b : Expr) → e ≡ seen.Binary op a b →
+    (form [] e).affine ≡ ((form [] a).affine && (form [] b).affine && allowed op (form [] a) (form [] b))
+affine-Binary e op a b h = search (rules, the_lemmas)
+
+-- what an affine expression divides by is a number other than 0
+pub divides : (e : Expr) (op : Op) (a b : Expr) → e ≡ seen.Binary op a b → IsTrue (form [] e).affine → op ≡ Div → (form [] b).divides ≡ true
+divides e op a b h affine o =
+    sym (ap (λ (p : Op). allowed p (form [] a) (form [] b)) o) ∙
+    second_of ((form [] a).affine && (form [] b).affine) (allowed op (form [] a) (form [] b)) (sym (affine-Binary e op a b h) ∙ affine)
 
 pub level_neg : (s : Store) (e a : Expr) → e ≡ seen.Neg a → (line s [] a).slope ≡ zero_ℚ → (line s [] e).slope ≡ zero_ℚ
 level_neg s e a h flat = neg_line s e a h ∙ ap neg_ℚ flat ∙ neg-zero

@@ -1,2 +1,7 @@
 pub mod Sees
 pub mod Level
+pub mod Defined
+pub mod Shown
+pub mod Moves
+pub mod Going
+pub mod Stretching

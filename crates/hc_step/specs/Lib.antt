@@ -1,3 +1,5 @@
 pub mod Usable
 pub mod Looking
+pub mod Taking
 pub mod Represents
+pub mod Stepping

@@ -11,7 +11,7 @@ use Rattle.hc_term.specs.Event.{Progress, progress}
 use Rattle.hc_code.specs.declared.code.Instr.{Instr}
 use Rattle.hc_code.specs.Stands.{Table, At, AllAgree}
 use Rattle.hc_step.specs.declared.local.Local.{Local}
-use Rattle.hc_step.specs.declared.local.Stretch.{Stretch}
+use Rattle.hc_step.specs.declared.stretch.Stretch.{Stretch}
 use Rattle.hc_step.specs.Looking.{Seen}
 use Rattle.hc_step.specs.declared.look.Move.{Move}
 use Rattle.hc_step.specs.declared.look.Move.TheVariants as move
@@ -23,6 +23,11 @@ pub record Represents (t : Table) (clock : Rational) (l : Local) (q : ProcessSta
   pub same_choices : l.choices ≡ q.choices % 64
   pub same_mark : l.mark ≡ q.mark
   pub same_post : l.post ≡ post clock q
+
+-- what a local keeps of a configuration wherever it stands and whatever it shows
+pub record Carries (l : Local) (q : ProcessState) : Type 0 where
+  pub same_store : take l.variables l.store ≡ q.store
+  pub same_choices : l.choices ≡ q.choices % 64
 
 -- a stretch takes exactly the silent steps that the definition has, of each configuration for which the local stands
 pub record Takes (t : Table) (clock : Rational) (s : Stretch) (new : Local) (g : Progress) : Type 0 where

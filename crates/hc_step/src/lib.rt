@@ -4,6 +4,9 @@
 mod local;
 mod look;
 mod posting;
+mod stretch;
+mod taking;
 
-pub use local::{Local, Stretch};
+pub use local::Local;
 pub use look::Move;
+pub use stretch::Stretch;

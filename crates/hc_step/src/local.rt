@@ -6,36 +6,32 @@ ghost use Rattle.hc_step.specs.Usable.{is_usable_code};
 use crate::look::{Move, look_arrived, look_at, takes_left};
 use hc_code::ProcCode;
 use hc_frac::Frac;
-use hc_term::{Mark, Phase, Post, StretchEnd, Unfit};
+use hc_term::{Mark, Phase, Post, Unfit};
 
 /// What a process keeps: its place in its code, its variables, the number of its choices modulo 64, whether it has
 /// arrived, and what it shows to the others.
 #[derive(Drop)]
 pub struct Local {
-    process: u32,
-    variables: u32,
-    place: u32,
-    choices: u32,
-    store: [Frac; 64],
-    mark: Mark,
-    post: Post,
+    pub(crate) process: u32,
+    pub(crate) variables: u32,
+    pub(crate) place: u32,
+    pub(crate) choices: u32,
+    pub(crate) store: [Frac; 64],
+    pub(crate) mark: Mark,
+    pub(crate) post: Post,
     pub ghost few: { variables ≤ 64 },
     pub ghost low: { choices < 64 },
 }
 
-/// How many silent steps were taken, and why no more.
-#[derive(Clone, Copy, Debug, PartialEq, Eq)]
-pub struct Stretch {
-    pub steps: u32,
-    pub end: StretchEnd,
-}
-
 impl Local {
+    ghost use Rattle.std.specs.Prelude.{Ok, Some};
     ghost use Rattle.hc_rational.specs.Words.{Rational};
     ghost use Rattle.hc_term.specs.declared.model.ProcessState.{ProcessState};
     ghost use Rattle.hc_term.specs.Process.{wants};
     ghost use Rattle.hc_term.specs.Silent.{silent};
     ghost use Rattle.hc_code.specs.Stands.{Table, AllAgree};
+    ghost use Rattle.hc_step.specs.declared.look.Move.{Move};
+    ghost use Rattle.hc_step.specs.Taking.{IsMovable};
     ghost use Rattle.hc_step.specs.Represents.{Represents, Sees};
 
     /// The place in the code.
@@ -82,11 +78,12 @@ impl Local {
     }
 
     /// The silent step, looked at before it is taken.
-    fn look(&self, code: &ProcCode, clock: Frac, seed: u64) -> Result<Option<Move>, Unfit>
+    pub(crate) fn look(&self, code: &ProcCode, clock: Frac, seed: u64) -> Result<Option<Move>, Unfit>
         requires usable { IsTrue (is_usable_code self.now.variables code.now.instrs) }
         requires within { self.now.place < length code.now.instrs }
-        ensures { (t : Table) (q : ProcessState) → AllAgree t code.now.instrs t → Represents t clock self.now q →
+        ensures sees { (t : Table) (q : ProcessState) → AllAgree t code.now.instrs t → Represents t clock self.now q →
             Sees t q (silent seed self.now.process clock q) result }
+        ensures movable { (step : Move) → result ≡ Ok (Some step) → IsMovable code.now.instrs clock self.now step }
     {
         let instr = code.at(self.place);
         match self.mark {

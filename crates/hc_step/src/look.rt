@@ -46,7 +46,7 @@ pub(crate) fn takes_left(seed: u64, process: u32, choices: u32) -> bool
     (seed >> bit) % 2 == 0
 }
 
-fn greater_of(left: Frac, right: Frac) -> Frac
+pub(crate) fn greater_of(left: Frac, right: Frac) -> Frac
     ensures { result ≡ greater left right }
 {
     match left.compare(right) {

@@ -2,8 +2,7 @@ use Rattle.std.proofs.Common.{◌≡◌, ap, sym, ◌∙◌, []}
 use Rattle.hc_term.specs.declared.expr.Expr.{Expr}
 use Rattle.hc_term.specs.Value.{work}
 use Rattle.hc_term.specs.Motion.{form, line}
-use Rattle.hc_term.proofs.Evaluating.{divides}
-use Rattle.hc_step.proofs.Level.{level_neg, level_binary, fitting_binary}
+use Rattle.hc_step.proofs.Level.{divides, level_neg, level_binary, fitting_binary}
 use Rattle.hc_step.proofs.posting.+level.Goals as goal
 
 pub exact-requires-clause-divisor : goal.exact-requires-clause-divisor
