@@ -5,3 +5,6 @@ pub mod Shown
 pub mod Moves
 pub mod Going
 pub mod Stretching
+pub mod Meetings
+pub mod Delays
+pub mod Moved

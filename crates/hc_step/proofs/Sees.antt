@@ -131,6 +131,17 @@ agrees_at t (l ∷ ls) (j ∷ is) zero todo i h e f =
     subst (λ (k : Instr). Agrees t k todo) same_instr (subst (λ (ss : List Stmt). Agrees t j ss) same_list h.0)
 agrees_at t (l ∷ ls) (j ∷ is) (suc place) todo i h e f = agrees_at t ls is place todo i h.1 e f
 
+-- where a place stands for a list, the code has an instruction there
+pub instr_at : (t ts : Table) (code : List Instr) (place : ℕ) (todo : List Stmt) → AllAgree t code ts → slice_get ts place ≡ Some todo →
+    (i : Instr) × (slice_get code place ≡ Some i) × Agrees t i todo
+instr_at t [] [] place todo h e = cc
+instr_at t [] (j ∷ is) place todo h e = absurd h
+instr_at t (l ∷ ls) [] place todo h e = absurd h
+instr_at t (l ∷ ls) (j ∷ is) zero todo h e =
+    let same : l ≡ todo = cc in
+    (j, refl, subst (λ (ss : List Stmt). Agrees t j ss) same h.0)
+instr_at t (l ∷ ls) (j ∷ is) (suc place) todo h e = instr_at t ls is place todo h.1 e
+
 going_sees : (t : Table) (seed p n : ℕ) (clock : Rational) (q : ProcessState) → q.mark ≡ Going → (todo : List Stmt) (i : Instr) → IsTrue (has_values n i) →
     Agrees t i todo → Sees t q (silent_at seed p clock q Going todo) (seen q.store clock (picks_left seed p q.choices) i)
 going_sees t seed p n clock q going [] i u h =

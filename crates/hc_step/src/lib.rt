@@ -1,8 +1,10 @@
 //! What a process keeps between its steps, and the steps of one process on its flat code.
 #![tactic(auto)]
 
+mod delay;
 mod local;
 mod look;
+mod meeting;
 mod posting;
 mod stretch;
 mod taking;
