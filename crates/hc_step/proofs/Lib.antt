@@ -8,3 +8,5 @@ pub mod Stretching
 pub mod Meetings
 pub mod Delays
 pub mod Moved
+pub mod Ruled
+pub mod Fresh

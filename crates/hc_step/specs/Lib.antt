@@ -5,3 +5,4 @@ pub mod Ways
 pub mod Delaying
 pub mod Represents
 pub mod Stepping
+pub mod Laws

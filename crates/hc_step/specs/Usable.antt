@@ -1,5 +1,5 @@
 -- Which codes a local can run: expressions keep the rules, places are in range, and there is no evolution yet.
-use Rattle.std.specs.Prelude.{ℕ, Bool, true, false, ◌&&◌, nat_le, nat_lt, List, length}
+use Rattle.std.specs.Prelude.{ℕ, Bool, true, false, not, ◌&&◌, nat_le, nat_lt, List, length}
 use Rattle.std.specs.List.{list_all}
 use Rattle.hc_term.specs.declared.stmt.Io.{Io}
 use Rattle.hc_term.specs.declared.stmt.Io.TheVariants.{Send, Receive}
@@ -21,6 +21,14 @@ has_values n (instr.Test c yes' no') = is_cond n c
 has_values n (instr.Meet ways) = nat_le (length ways) 32 && list_all (λ w. has_values_io n w.io) ways
 has_values n (instr.Evolve rates c ways next) = false
 has_values n _ = true
+
+abbrev pub evolves : Instr → Bool
+evolves (instr.Evolve rates c ways next) = true
+evolves _ = false
+
+-- a code without evolutions
+abbrev pub is_still : List Instr → Bool
+is_still code = list_all (λ i. not (evolves i)) code
 
 -- places of a code of this length
 abbrev pub has_places : ℕ → Instr → Bool

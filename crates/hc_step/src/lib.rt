@@ -1,7 +1,9 @@
 //! What a process keeps between its steps, and the steps of one process on its flat code.
 #![tactic(auto)]
 
+mod copies;
 mod delay;
+mod laws;
 mod local;
 mod look;
 mod meeting;
@@ -9,6 +11,7 @@ mod posting;
 mod stretch;
 mod taking;
 
+pub use laws::codes;
 pub use local::Local;
 pub use look::Move;
 pub use stretch::Stretch;
