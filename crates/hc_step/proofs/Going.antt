@@ -1,5 +1,5 @@
 -- A local that went on or arrived stands for the configuration that did the same.
-use Rattle.std.proofs.Common.{◌≡◌, refl, sym, ap, ◌∙◌, subst, arith, ℕ, ◌+◌, ◌%◌, ◌<◌, IsTrue, List, take, length, Option, Some, None}
+use Rattle.std.proofs.Common.{◌≡◌, sym, ap, ◌∙◌, subst, arith, ℕ, ◌+◌, ◌%◌, ◌<◌, IsTrue, List, take, Option, Some, None}
 use Rattle.std.specs.Prelude.{slice_get, slice_set}
 use Rattle.std.proofs.Math.Seq.{take-set-lt}
 use Rattle.hc_rational.specs.Words.{Rational}
@@ -10,7 +10,6 @@ use Rattle.hc_term.specs.Value.{Store}
 use Rattle.hc_code.specs.declared.code.Instr.{Instr}
 use Rattle.hc_code.specs.Stands.{Table, At, AllAgree}
 use Rattle.hc_step.specs.declared.local.Local.{Local}
-use Rattle.hc_step.specs.declared.look.Move.{Move}
 use Rattle.hc_step.specs.declared.look.Move.TheVariants as move
 use Rattle.hc_step.specs.Taking.{phase_of, plain_post, post_of, may_arrive}
 use Rattle.hc_step.specs.Represents.{Represents, Carries, LeadsTo, Keeps}

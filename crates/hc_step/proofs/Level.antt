@@ -1,5 +1,5 @@
 -- Where nothing evolves, the line of an expression is level.
-use Rattle.std.proofs.Common.{rules, ◌≡◌, ◌≢◌, refl, sym, ap, ap₂, ◌∙◌, Bool, true, ◌&&◌, IsTrue, [], pos}
+use Rattle.std.proofs.Common.{rules, ◌≡◌, ◌≢◌, refl, sym, ap, ap₂, ◌∙◌, true, ◌&&◌, IsTrue, [], pos}
 use Rattle.std.specs.declared.cmp.Ordering.{Ordering}
 use Rattle.hc_rational.specs.Words.{Rational, ◌+ℚ◌, ◌-ℚ◌, ◌*ℚ◌, ◌/ℚ◌, neg_ℚ, rank, fits}
 use Rattle.hc_rational.specs.Rational.{zero_ℚ}

@@ -1,7 +1,7 @@
 -- The first way on a channel leads where the definition of a communication does.
-use Rattle.std.proofs.Common.{◌≡◌, ◌≢◌, refl, sym, ap, ap₂, ◌∙◌, subst, ℕ, ◌<◌, Bool, true, false, ◌&&◌, ◌||◌, if◌then◌else◌, ◌==◌, IsTrue, List, [], ◌∷◌, ◌++◌, length, Option, Some, None}
+use Rattle.std.proofs.Common.{◌≡◌, ◌≢◌, refl, sym, ap, ◌∙◌, subst, ℕ, ◌<◌, Bool, true, false, ◌||◌, if◌then◌else◌, ◌==◌, IsTrue, List, [], ◌∷◌, ◌++◌, length, Option, Some, None}
 use Rattle.std.specs.Prelude.{slice_get, slice_set, nat_lt, nat_le}
-use Rattle.std.specs.List.{list_all, list_any}
+use Rattle.std.specs.List.{list_all}
 use Rattle.std.proofs.lemmas.Bool.{ltb-true, false≢true}
 use Rattle.hc_rational.specs.Words.{Rational}
 use Rattle.hc_term.specs.declared.stmt.Io.{Io}
@@ -11,11 +11,9 @@ use Rattle.hc_term.specs.declared.expr.Cond.{Cond}
 use Rattle.hc_term.specs.declared.stmt.Stmt.{Stmt, out-Stmt}
 use Rattle.hc_term.specs.declared.stmt.Stmt.TheOpen.{Stmt-F}
 use Rattle.hc_term.specs.declared.stmt.Branch.{Branch, out-Branch}
-use Rattle.hc_term.specs.declared.post.Offer.{Offer}
 use Rattle.hc_term.specs.declared.model.Mark.{Mark}
 use Rattle.hc_term.specs.declared.model.Mark.TheVariants.{Going, Arrived}
 use Rattle.hc_term.specs.declared.model.ProcessState.{ProcessState}
-use Rattle.hc_term.specs.Profile.{is_expr}
 use Rattle.hc_term.specs.Value.{Store}
 use Rattle.hc_term.specs.Process.{Layer, bound_here, bound_at}
 use Rattle.hc_term.specs.Offers.{offer_of, offers_of, offers_here, post_at}

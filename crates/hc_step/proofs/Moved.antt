@@ -1,7 +1,6 @@
 -- A local stands after a delay for the configuration that has moved.
-use Rattle.std.proofs.Common.{◌≡◌, refl, sym, ap, ap₂, ◌∙◌, subst, ℕ, ◌%◌, take, Bool, true, false, if◌then◌else◌, IsTrue, List, [], ◌∷◌, Option, Some, None}
+use Rattle.std.proofs.Common.{◌≡◌, refl, sym, ap, ap₂, ◌∙◌, ℕ, ◌%◌, take, Bool, true, false, if◌then◌else◌, IsTrue, List, [], ◌∷◌, Option, Some, None}
 use Rattle.std.specs.Prelude.{IfSome}
-use Rattle.std.proofs.lemmas.Bool.{false≢true}
 use Rattle.hc_rational.specs.Words.{Rational, ◌+ℚ◌, ◌-ℚ◌, ◌≤ℚ◌, greater, is_positive}
 use Rattle.hc_rational.specs.Rational.{zero_ℚ}
 use Rattle.hc_term.specs.declared.expr.Expr.{Expr}
@@ -9,19 +8,17 @@ use Rattle.hc_term.specs.declared.stmt.Stmt.{Stmt, out-Stmt}
 use Rattle.hc_term.specs.declared.stmt.Stmt.TheOpen.{Stmt-F}
 use Rattle.hc_term.specs.declared.post.Post.{Post}
 use Rattle.hc_term.specs.declared.post.Phase.TheVariants as phase
-use Rattle.hc_term.specs.declared.post.Offer.{Offer}
 use Rattle.hc_term.specs.declared.model.Mark.{Mark}
 use Rattle.hc_term.specs.declared.model.Mark.TheVariants.{Going, Arrived}
-use Rattle.hc_term.specs.declared.model.ProcessState.{ProcessState}
 use Rattle.hc_term.specs.Value.{Store}
 use Rattle.hc_term.specs.Process.{Layer, bound_here, bound_at}
-use Rattle.hc_term.specs.Offers.{post, post_at, due_of, moving_here, offers_here}
-use Rattle.hc_term.specs.Communication.{moved_store, left_after, moved_at, moved}
+use Rattle.hc_term.specs.Offers.{post_at, due_of, moving_here, offers_here}
+use Rattle.hc_term.specs.Communication.{moved_store, left_after, moved}
 use Rattle.hc_code.specs.declared.code.Instr.{Instr}
-use Rattle.hc_code.specs.Stands.{Table, At, AgreesHere, Agrees, AllAgree}
+use Rattle.hc_code.specs.Stands.{Table, At, AgreesHere, Agrees}
 use Rattle.hc_step.specs.declared.local.Local.{Local}
 use Rattle.hc_step.specs.Usable.{has_values}
-use Rattle.hc_step.specs.Delaying.{left_of, due_after, post_after}
+use Rattle.hc_step.specs.Delaying.{left_of, post_after}
 use Rattle.hc_step.specs.Represents.{Represents}
 use Rattle.hc_step.proofs.Meetings.{no_evolution}
 use Rattle.hc_step.proofs.Delays.{greater_positive, none_left, minus_none, same_moment, rest_of_bound}
@@ -90,10 +87,10 @@ module _ (clock d : Rational) (s : Store) (left : Rational) (from_zero : zero_�
       let is_now = what_is_left (is_positive limit) (limit -ℚ d) now e in
       let same_left : left -ℚ d ≡ now = ap (λ (r : Rational). r -ℚ d) (sym (greater_positive left going)) ∙ is_now in
       let bound_now : greater zero_ℚ now ≡ now =
-          ap (λ (r : Rational). greater zero_ℚ r) (sym same_left) ∙ rest_of_bound d left going to ∙ is_now in
+      ap (λ (r : Rational). greater zero_ℚ r) (sym same_left) ∙ rest_of_bound d left going to ∙ is_now in
       let moment : due_of clock (Some limit) ≡ Some ((clock +ℚ d) +ℚ now) =
-          due_is (is_positive limit) (clock +ℚ limit) going
-          ∙ ap (λ (r : Rational). Some r) (sym (same_moment clock d limit) ∙ ap (λ (r : Rational). (clock +ℚ d) +ℚ r) is_now) in
+      due_is (is_positive limit) (clock +ℚ limit) going
+      ∙ ap (λ (r : Rational). Some r) (sym (same_moment clock d limit) ∙ ap (λ (r : Rational). (clock +ℚ d) +ℚ r) is_now) in
       record {
         same_store = refl;
         waits = same_left;

@@ -1,6 +1,6 @@
 -- A move that was seen at an instruction of a usable code can be taken.
-use Rattle.std.proofs.Common.{◌≡◌, refl, sym, ap, ◌∙◌, subst, ℕ, ◌<◌, Bool, true, false, ◌&&◌, if◌then◌else◌, IsTrue, List, length, take, Option, Some, None, Result, Ok, Err}
-use Rattle.std.specs.Prelude.{slice_get, nat_lt, nat_le}
+use Rattle.std.proofs.Common.{◌≡◌, refl, subst, ℕ, ◌<◌, Bool, true, false, if◌then◌else◌, IsTrue, List, length, take, Option, Some, None, Result, Ok, Err}
+use Rattle.std.specs.Prelude.{slice_get, nat_lt}
 use Rattle.std.specs.List.{list_all}
 use Rattle.std.proofs.lemmas.Bool.{ltb-true}
 use Rattle.hc_rational.specs.Words.{Rational, zero_ℚ, greater}
@@ -8,7 +8,7 @@ use Rattle.hc_term.specs.declared.run.Unfit.{Unfit}
 use Rattle.hc_term.specs.Value.{Store}
 use Rattle.hc_term.specs.Evaluated.{value_in, truth_in}
 use Rattle.hc_term.specs.Process.{is_due}
-use Rattle.hc_term.specs.Profile.{is_expr, is_cond}
+use Rattle.hc_term.specs.Profile.{is_expr}
 use Rattle.hc_term.specs.Silent.{due_fits, sent_fits}
 use Rattle.hc_code.specs.declared.code.Instr.{Instr}
 use Rattle.hc_code.specs.declared.code.Instr.TheVariants as instr
@@ -16,8 +16,8 @@ use Rattle.hc_code.proofs.Growing.{first_of, second_of}
 use Rattle.hc_step.specs.declared.local.Local.{Local}
 use Rattle.hc_step.specs.declared.look.Move.{Move}
 use Rattle.hc_step.specs.declared.look.Move.TheVariants as move
-use Rattle.hc_step.specs.Usable.{has_values, has_places, is_usable, is_usable_code}
-use Rattle.hc_step.specs.Looking.{Seen, setting, logging, testing, arriving, waiting, seen, leaving, seen_arrived}
+use Rattle.hc_step.specs.Usable.{has_values, has_places, is_usable_code}
+use Rattle.hc_step.specs.Looking.{Seen, setting, logging, testing, arriving, waiting, seen, seen_arrived}
 use Rattle.hc_step.specs.Taking.{may_arrive, IsMovable}
 use Rattle.hc_step.proofs.Sees.{usable_at}
 

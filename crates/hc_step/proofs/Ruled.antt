@@ -1,5 +1,5 @@
 -- The code of a process that keeps the rules can be run, where it has no evolution.
-use Rattle.std.proofs.Common.{◌≡◌, refl, sym, ap, ◌∙◌, subst, arith, ℕ, zero, suc, ◌+◌, ◌<◌, ◌≤◌, Bool, true, false, not, ◌&&◌, IsTrue, List, [], ◌∷◌, ◌++◌, length, map, Some}
+use Rattle.std.proofs.Common.{◌≡◌, refl, sym, ap, subst, arith, ℕ, zero, suc, ◌+◌, ◌<◌, true, not, ◌&&◌, IsTrue, List, [], ◌∷◌, ◌++◌, length, Some}
 use Rattle.std.specs.Prelude.{slice_get, nat_lt, nat_le}
 use Rattle.std.specs.List.{list_all}
 use Rattle.std.proofs.lemmas.Bool.{lt-ltb, leb-true}
@@ -9,7 +9,6 @@ use Rattle.hc_term.specs.declared.stmt.Io.TheVariants.{Send, Receive}
 use Rattle.hc_term.specs.declared.stmt.Stmt.{Stmt, out-Stmt}
 use Rattle.hc_term.specs.declared.stmt.Stmt.TheOpen.{Stmt-F}
 use Rattle.hc_term.specs.declared.stmt.Branch.{Branch}
-use Rattle.hc_term.specs.declared.system.Process.{Process}
 use Rattle.hc_term.specs.Process.{Layer}
 use Rattle.hc_term.specs.Profile.{is_expr, is_io, is_same_io, all_apart}
 use Rattle.hc_term.specs.Rules.{is_stmt}
@@ -19,7 +18,7 @@ use Rattle.hc_code.specs.declared.code.Instr.TheVariants as instr
 use Rattle.hc_code.specs.Kept.{ios_of, is_instr}
 use Rattle.hc_code.specs.Stands.{Table, At, AgreesHere, WaysAgree, Agrees, AllAgree}
 use Rattle.hc_code.proofs.Growing.{both, first_of, second_of}
-use Rattle.hc_step.specs.Usable.{has_values_io, has_values, has_places, evolves, is_still, is_usable, is_usable_code}
+use Rattle.hc_step.specs.Usable.{has_values_io, has_values, has_places, evolves, is_still, is_usable}
 use Rattle.hc_step.specs.Laws.{RuledCodesAreUsable}
 
 -- ---- places

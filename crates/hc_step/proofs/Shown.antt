@@ -1,5 +1,5 @@
 -- What a process shows that goes on or arrives at an instruction is what the definition has for a list that the instruction agrees with.
-use Rattle.std.proofs.Common.{◌≡◌, refl, sym, ap, ap₂, ◌∙◌, subst, Bool, true, false, IsTrue, List, [], ◌∷◌, map, Option, Some, None}
+use Rattle.std.proofs.Common.{◌≡◌, refl, sym, ap, ap₂, ◌∙◌, false, IsTrue, List, [], ◌∷◌, Option, None}
 use Rattle.std.proofs.lemmas.Bool.{false≢true}
 use Rattle.hc_rational.specs.Words.{Rational}
 use Rattle.hc_term.specs.declared.stmt.Stmt.{Stmt, out-Stmt}
@@ -15,7 +15,6 @@ use Rattle.hc_term.specs.Process.{Layer, bound_here, bound_at}
 use Rattle.hc_term.specs.Offers.{offer_of, offers_of, offers_here, moving_here, due_of, post_at}
 use Rattle.hc_code.specs.declared.code.Way.{Way}
 use Rattle.hc_code.specs.declared.code.Instr.{Instr}
-use Rattle.hc_code.specs.declared.code.Instr.TheVariants as instr
 use Rattle.hc_code.specs.Stands.{Table, AgreesHere, WaysAgree, Agrees}
 use Rattle.hc_step.specs.Taking.{phase_of, plain_post, arrived_post, offers_in, post_of, may_arrive}
 

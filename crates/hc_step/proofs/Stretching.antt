@@ -1,27 +1,17 @@
 -- A stretch, step by step, is what the definition has.
-use Rattle.std.proofs.Common.{◌≡◌, refl, sym, ap, ap₂, ◌∙◌, subst, arith, ℕ, zero, suc, ◌+◌, ◌-◌, ◌<◌, ◌≤◌, Bool, true, false, if◌then◌else◌, List, [], ◌∷◌, length, Option, Some, None, Ok, Err}
-use Rattle.std.specs.Prelude.{slice_get}
+use Rattle.std.proofs.Common.{◌≡◌, refl, sym, ap, ◌∙◌, subst, arith, ℕ, zero, suc, ◌+◌, ◌-◌, ◌<◌, ◌≤◌, Option, Some, None, Ok, Err}
 use Rattle.hc_rational.specs.Words.{Rational}
-use Rattle.hc_term.specs.declared.stmt.Stmt.{Stmt, out-Stmt}
 use Rattle.hc_term.specs.declared.run.Unfit.{Unfit}
 use Rattle.hc_term.specs.declared.run.StretchEnd.{StretchEnd}
 use Rattle.hc_term.specs.declared.run.StretchEnd.TheVariants as ends
-use Rattle.hc_term.specs.declared.post.Phase.{Phase}
-use Rattle.hc_term.specs.declared.post.Phase.TheVariants as phase
-use Rattle.hc_term.specs.declared.model.Mark.{Mark}
-use Rattle.hc_term.specs.declared.model.Mark.TheVariants.{Going, Arrived}
 use Rattle.hc_term.specs.declared.model.ProcessState.{ProcessState}
-use Rattle.hc_term.specs.Value.{Store}
-use Rattle.hc_term.specs.Process.{is_done}
 use Rattle.hc_term.specs.Silent.{Outcome, Idle, Did, silent}
 use Rattle.hc_term.specs.Silent as outcome
-use Rattle.hc_term.specs.Offers.{post_at}
-use Rattle.hc_term.specs.Event.{Progress, idle_end, with_silent, stopped, progress_by, spent_by, progress}
+use Rattle.hc_term.specs.Event.{Progress, idle_end, with_silent, progress_by, spent_by, progress}
 use Rattle.hc_code.specs.Stands.{Table}
 use Rattle.hc_step.specs.declared.local.Local.{Local}
 use Rattle.hc_step.specs.declared.look.Move.{Move}
 use Rattle.hc_step.specs.declared.look.Move.TheVariants as move
-use Rattle.hc_step.specs.declared.stretch.Stepped.{Stepped}
 use Rattle.hc_step.specs.declared.stretch.Stepped.TheVariants.{Took, Logged, Ends}
 use Rattle.hc_step.specs.Represents.{Represents, LeadsTo, Sees, Takes}
 use Rattle.hc_step.specs.Stepping.{stepped, Steps, end_before}

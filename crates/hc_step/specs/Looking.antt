@@ -1,5 +1,5 @@
 -- What is seen of the silent step of a going process at an instruction: what the parts of the program answer.
-use Rattle.std.specs.Prelude.{ℕ, Bool, true, false, if◌then◌else◌, Option, Some, None, Result, Ok, Err, List}
+use Rattle.std.specs.Prelude.{ℕ, Bool, true, false, if◌then◌else◌, Option, Some, None, Result, Ok, Err}
 use Rattle.std.specs.List.{list_all}
 use Rattle.hc_rational.specs.Words.{Rational, zero_ℚ, greater}
 use Rattle.hc_term.specs.declared.run.Unfit.{Unfit}

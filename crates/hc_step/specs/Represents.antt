@@ -2,14 +2,12 @@
 use Rattle.std.specs.Prelude.{◌≡◌, ◌<◌, ◌+◌, ◌%◌, ℕ, List, length, take, replicate, slice_set, Option, Some, None, Ok, Err}
 use Rattle.hc_rational.specs.Words.{Rational, zero_ℚ}
 use Rattle.hc_term.specs.declared.stmt.Stmt.{Stmt}
-use Rattle.hc_term.specs.declared.model.Mark.{Mark}
 use Rattle.hc_term.specs.declared.model.Mark.TheVariants.{Going, Arrived}
 use Rattle.hc_term.specs.declared.model.ProcessState.{ProcessState}
 use Rattle.hc_term.specs.Silent.{Outcome, Idle, Unfit, Did}
 use Rattle.hc_term.specs.Offers.{post, going_post}
-use Rattle.hc_term.specs.Event.{Progress, progress}
-use Rattle.hc_code.specs.declared.code.Instr.{Instr}
-use Rattle.hc_code.specs.Stands.{Table, At, AllAgree}
+use Rattle.hc_term.specs.Event.{Progress}
+use Rattle.hc_code.specs.Stands.{Table, At}
 use Rattle.hc_step.specs.declared.local.Local.{Local}
 use Rattle.hc_step.specs.declared.stretch.Stretch.{Stretch}
 use Rattle.hc_step.specs.Looking.{Seen}

@@ -1,5 +1,5 @@
 -- What a move needs before it is taken, and what a process shows at an instruction.
-use Rattle.std.specs.Prelude.{◌≡◌, ◌<◌, ℕ, Bool, true, false, List, [], length, map, take, slice_get, Option, Some, None, IsTrue}
+use Rattle.std.specs.Prelude.{◌≡◌, ◌<◌, Bool, false, List, [], length, map, take, slice_get, Option, Some, None, IsTrue}
 use Rattle.std.specs.List.{list_all}
 use Rattle.hc_rational.specs.Words.{Rational, zero_ℚ, greater}
 use Rattle.hc_term.specs.declared.post.Post.{Post}

@@ -4,7 +4,6 @@ use Rattle.std.specs.List.{list_all}
 use Rattle.hc_term.specs.declared.stmt.Io.{Io}
 use Rattle.hc_term.specs.declared.stmt.Io.TheVariants.{Send, Receive}
 use Rattle.hc_term.specs.Profile.{is_expr, is_cond}
-use Rattle.hc_code.specs.declared.code.Way.{Way}
 use Rattle.hc_code.specs.declared.code.Instr.{Instr}
 use Rattle.hc_code.specs.declared.code.Instr.TheVariants as instr
 

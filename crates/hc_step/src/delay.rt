@@ -84,11 +84,7 @@ fn left_of(bound: Option<Frac>, by: Frac) -> Option<Frac>
 fn due_after(left: Frac, due: Option<Frac>) -> Option<Frac>
     ensures { result ≡ spec.due_after left due }
 {
-    if left.sign() > 0 {
-        due
-    } else {
-        None
-    }
+    if left.sign() > 0 { due } else { None }
 }
 
 impl Local {

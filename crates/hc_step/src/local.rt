@@ -145,7 +145,12 @@ impl Local {
     }
 
     /// The silent step, looked at before it is taken.
-    pub(crate) fn look(&self, code: &ProcCode, clock: Frac, seed: u64) -> Result<Option<Move>, Unfit>
+    pub(crate) fn look(
+        &self,
+        code: &ProcCode,
+        clock: Frac,
+        seed: u64,
+    ) -> Result<Option<Move>, Unfit>
         requires usable { IsTrue (is_usable_code self.now.variables code.now.instrs) }
         requires within { self.now.place < length code.now.instrs }
         ensures sees { (t : Table) (q : ProcessState) → AllAgree t code.now.instrs t → Represents t clock self.now q →

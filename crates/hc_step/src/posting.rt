@@ -97,7 +97,7 @@ fn due_of(clock: Frac, bound: Frac) -> Option<Frac>
     }
 }
 
-/// Shows a process that is going, or has ended.
+/// Shows this phase, and nothing else.
 pub(crate) fn show(post: &mut Post, phase: Phase)
     ensures { post.new ≡ record { phase = phase; bound = None; due = None; moving = []; offers = [] } }
 {
@@ -113,11 +113,9 @@ pub(crate) fn show_wait(post: &mut Post, clock: Frac, bound: Frac)
     requires { IsTrue (due_fits clock (Some bound)) }
     ensures { post.new ≡ record { phase = Phase.Arrived; bound = Some bound; due = spec.due_of clock (Some bound); moving = []; offers = [] } }
 {
-    post.phase = Phase::Arrived;
+    show(post, Phase::Arrived);
     post.bound = Some(bound);
     post.due = due_of(clock, bound);
-    post.moving.clear();
-    post.offers.clear();
 }
 
 /// Shows a process that has arrived at communications.
@@ -133,9 +131,6 @@ pub(crate) fn show_ways(post: &mut Post, ways: &[Way], store: &[Frac])
       offers = map (λ w. spec.offer_of store.now [] w.io) ways.now;
     } }
 {
-    post.phase = Phase::Arrived;
-    post.bound = None;
-    post.due = None;
-    post.moving.clear();
+    show(post, Phase::Arrived);
     offer_all(&mut post.offers, ways, store);
 }

@@ -1,4 +1,4 @@
-use Rattle.std.proofs.Common.{◌≡◌, ap, ap₂, sym, ◌∙◌, List, length}
+use Rattle.std.proofs.Common.{ap, ap₂, sym, ◌∙◌, List, length}
 use Rattle.std.specs.List.{list_all}
 use Rattle.hc_term.specs.Silent.{sent_fits}
 use Rattle.hc_code.specs.declared.code.Way.{Way}

@@ -1,4 +1,4 @@
-use Rattle.std.proofs.Common.{◌≡◌, ap, sym, ◌∙◌, length}
+use Rattle.std.proofs.Common.{ap, sym, ◌∙◌, length}
 use Rattle.hc_step.specs.Usable.{has_values_io}
 use Rattle.hc_step.proofs.Defined.{expr_defined}
 use Rattle.hc_step.proofs.look.sent_fit.Goals as goal

@@ -1,4 +1,4 @@
-use Rattle.std.proofs.Common.{◌≡◌, ap, sym, ◌∙◌, []}
+use Rattle.std.proofs.Common.{ap, sym, ◌∙◌, []}
 use Rattle.hc_term.specs.declared.expr.Expr.{Expr}
 use Rattle.hc_term.specs.Value.{work}
 use Rattle.hc_term.specs.Motion.{form, line}

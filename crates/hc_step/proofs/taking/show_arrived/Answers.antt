@@ -1,4 +1,4 @@
-use Rattle.std.proofs.Common.{◌≡◌, ap, sym, ◌∙◌, List, None}
+use Rattle.std.proofs.Common.{ap, sym, ◌∙◌, List, None}
 use Rattle.hc_code.specs.declared.code.Way.{Way}
 use Rattle.hc_step.specs.Taking.{arrived_post, offers_in, post_of}
 use Rattle.hc_step.proofs.taking.show_arrived.Goals as goal

@@ -1,4 +1,4 @@
-use Rattle.std.proofs.Common.{◌≡◌, subst, Some, None, Ok, Err}
+use Rattle.std.proofs.Common.{◌≡◌, subst, Some, None, Ok}
 use Rattle.hc_term.specs.Silent.{silent}
 use Rattle.hc_step.specs.Looking.{Seen}
 use Rattle.hc_step.specs.Represents.{Sees}

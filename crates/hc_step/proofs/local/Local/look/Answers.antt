@@ -1,9 +1,7 @@
-use Rattle.std.proofs.Common.{◌≡◌, ap, ap₂, sym, ◌∙◌, subst, Bool, Option, length, take, refl, arith, Ok, Some}
-use Rattle.std.proofs.lemmas.List.{length-take-le}
-use Rattle.hc_rational.specs.Words.{Rational}
+use Rattle.std.proofs.Common.{◌≡◌, ap, ap₂, sym, ◌∙◌, subst, Bool, length, refl}
 use Rattle.hc_term.specs.Value.{Store}
 use Rattle.hc_term.specs.Silent.{silent, picks_left}
-use Rattle.hc_step.specs.Looking.{Seen, seen, seen_arrived}
+use Rattle.hc_step.specs.Looking.{Seen, seen}
 use Rattle.hc_step.specs.Represents.{Sees}
 use Rattle.hc_step.proofs.Moves.{movable_going, movable_arrived}
 use Rattle.hc_step.proofs.Sees.{sees_going, sees_arrived, same_side, values_at, shown_bound}

@@ -1,4 +1,4 @@
-use Rattle.std.proofs.Common.{◌≡◌, refl, ap, sym, subst, ◌∙◌, Option, Some, None}
+use Rattle.std.proofs.Common.{◌≡◌, refl, ap, sym, subst, ◌∙◌, Option, Some}
 use Rattle.std.specs.Prelude.{IfSome}
 use Rattle.hc_rational.specs.Words.{Rational, ◌≤ℚ◌}
 use Rattle.hc_term.specs.Process.{bound_at}

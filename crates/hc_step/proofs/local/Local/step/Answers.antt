@@ -1,4 +1,4 @@
-use Rattle.std.proofs.Common.{◌≡◌, subst, sym, Some, None, Ok, Err}
+use Rattle.std.proofs.Common.{◌≡◌, subst, sym, Some, None, Ok}
 use Rattle.hc_term.specs.Silent.{silent}
 use Rattle.hc_step.specs.declared.stretch.Stepped.{Stepped}
 use Rattle.hc_step.specs.Looking.{Seen}

@@ -1,8 +1,6 @@
-use Rattle.std.proofs.Common.{◌≡◌, ◌+◌, ap, subst, ◌∙◌, refl, arith, ℕ, length}
+use Rattle.std.proofs.Common.{◌+◌, ap, subst, ◌∙◌, refl, arith, ℕ, length}
 use Rattle.hc_term.specs.Silent.{silent}
 use Rattle.hc_step.specs.declared.stretch.Stepped.{Stepped}
-use Rattle.hc_term.specs.declared.model.ProcessState.{ProcessState}
-use Rattle.hc_code.specs.Stands.{Table}
 use Rattle.hc_step.specs.Stepping.{Steps, end_before}
 use Rattle.hc_step.proofs.Going.{keeps_more}
 use Rattle.hc_step.proofs.Stretching.{ends_logged, ends_otherwise, ends_spent, goes_on}
