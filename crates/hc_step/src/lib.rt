@@ -13,5 +13,4 @@ mod taking;
 
 pub use laws::codes;
 pub use local::Local;
-pub use look::Move;
 pub use stretch::Stretch;

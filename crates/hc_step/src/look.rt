@@ -15,7 +15,7 @@ use std::cmp::Ordering;
 /// What a silent step does: it goes on at a place, and may set a variable, log a value or take a side of a choice
 /// before it does; or it arrives, with so much left to wait.
 #[derive(Clone, Copy, Debug, PartialEq, Eq)]
-pub enum Move {
+pub(crate) enum Move {
     Goes {
         next: u32,
     },

@@ -1,6 +1,6 @@
 //! Stretches of silent steps.
 
-ghost use Rattle.std.specs.Prelude.{◌≡◌, ◌<◌, length, IsTrue};
+ghost use Rattle.std.specs.Prelude.{◌≡◌, ◌<◌, ◌≤◌, length, IsTrue};
 ghost use Rattle.hc_step.specs.Usable.{is_usable_code};
 ghost use Rattle.hc_step.specs.Stepping.{stepped};
 
@@ -90,6 +90,7 @@ impl Local {
     pub fn stretch(&mut self, code: &ProcCode, clock: Frac, seed: u64, most: u32) -> Stretch
         requires usable { IsTrue (is_usable_code self.old.variables code.now.instrs) }
         requires within { self.old.place < length code.now.instrs }
+        ensures at_most { result.steps ≤ most }
         ensures keeps { Keeps (length code.now.instrs) self.old self.new }
         ensures takes { (t : Table) (q : ProcessState) → AllAgree t code.now.instrs t → Represents t clock self.old q →
             Takes t clock result self.new (progress most seed self.old.process clock q) }
