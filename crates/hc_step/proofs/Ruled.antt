@@ -23,7 +23,8 @@ use Rattle.hc_step.specs.Laws.{RuledCodesAreUsable}
 
 -- ---- places
 
-in_table : (t : Table) (place : ℕ) (todo : List Stmt) → slice_get t place ≡ Some todo → place < length t
+-- a place that stands for a list is one of the table
+pub in_table : (t : Table) (place : ℕ) (todo : List Stmt) → slice_get t place ≡ Some todo → place < length t
 in_table [] place todo e = cc
 in_table (l ∷ ls) zero todo e = omega arith
 in_table (l ∷ ls) (suc place) todo e = omega (arith, in_table ls place todo e)
