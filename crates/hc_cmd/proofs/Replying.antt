@@ -1,5 +1,5 @@
 -- From what a text gives to what the words and the source give, and from there to what stands.
-use Rattle.std.proofs.Common.{arith, ◌≡◌, ◌≢◌, ◌≤◌, ◌<◌, ℕ, List, length, Option, Some, None, [], Result, MatchResult, Ok, Err, ◌⊎◌, inl, inr, refl, sym, ap, subst, ◌∙◌}
+use Rattle.std.proofs.Common.{arith, ◌≡◌, ◌≢◌, ◌≤◌, ℕ, List, length, Option, Some, None, [], Result, MatchResult, Ok, Err, ◌⊎◌, inl, inr, refl, sym, ap, ◌∙◌}
 use Rattle.std.proofs.lemmas.List.{append-nil}
 use Rattle.hc_world.specs.Counts.{Rose}
 use Rattle.hc_world.specs.Reading.{IsAll}
@@ -21,7 +21,7 @@ use Rattle.hc_finds.specs.declared.stop.CheckStop.TheVariants as check
 use Rattle.hc_check.specs.Checked as checks
 use Rattle.hc_term.specs.declared.system.System.{System}
 use Rattle.hc_words.specs.declared.requests.Request.{Request}
-use Rattle.hc_words.specs.declared.requests.Request.TheVariants.{Check, Print, Simulate}
+use Rattle.hc_words.specs.declared.requests.Request.TheVariants.{Print, Simulate}
 use Rattle.hc_words.specs.declared.requests.Settings.{Settings}
 use Rattle.hc_words.specs.Requests.{Ask}
 use Rattle.hc_cmd.specs.declared.refusal.Refusal.{Refusal}
@@ -34,7 +34,7 @@ use Rattle.hc_parse.specs.declared.parsing.ParseStop.{ParseStop}
 use Rattle.hc_parse.specs.declared.parsing.ParseStop.TheVariants as stop
 use Rattle.hc_parse.specs.Stops.{IsStop}
 use Rattle.hc_cmd.specs.Refusals.{refused, status_of, status_of_stop, status_of_module_stop, status_of_check_stop}
-use Rattle.hc_cmd.specs.Replies.{spelled, sized, size_of, Accepts, Rejects, unexpanded, unchecked, Simulates, plain, not_plain, Answers, size, simulation, spelling, unparsed, rejected, status_at, simulated, Replies, usage, unread, no_memory, too_long, answered}
+use Rattle.hc_cmd.specs.Replies.{spelled, sized, size_of, Accepts, Rejects, unexpanded, unchecked, Simulates, plain, not_plain, Answers, size, simulation, spelling, unparsed, rejected, status_at, Replies, usage, unread, no_memory, too_long, answered}
 use Rattle.hc_cmd.specs.Complete.{IsReplyTo, IsComplete}
 use Rattle.hc_cmd.specs.Prepared.{reply_to, simulation_reply, IsReady, IsSimulated, SimulatesTree}
 use Rattle.hc_ast.specs.declared.tree.Tree.{Tree}
@@ -108,7 +108,7 @@ rejected_tree tree settings f (inr r) = inr (inr r)
 pub system_gives : (tree : Tree) (flat : Flat) (system : System) (settings : Settings) → Accepts tree flat system → (r : Result Simulation Refusal) →
     MatchResult r (λ s. IsSimulated s × Simulates settings system (simulation_reply s)) (λ f. (refused f ≡ refused Memory) ⊎ Simulates settings system (refused f)) →
     MatchResult r (λ s. IsSimulated s × SimulatesTree tree settings (simulation_reply s))
-        (λ f. (refused f ≡ refused Memory) ⊎ (SimulatesTree tree settings (refused f) ⊎ Rejects tree (refused f)))
+    (λ f. (refused f ≡ refused Memory) ⊎ (SimulatesTree tree settings (refused f) ⊎ Rejects tree (refused f)))
 system_gives tree flat system settings accepts (Ok s) h = (h.0, (flat, system, accepts, h.1))
 system_gives tree flat system settings accepts (Err f) (inl e) = inl e
 system_gives tree flat system settings accepts (Err f) (inr s) = inr (inl (flat, system, accepts, s))

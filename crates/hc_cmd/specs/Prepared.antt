@@ -1,5 +1,5 @@
 -- What is ready to be written.
-use Rattle.std.specs.Prelude.{◌≡◌, []}
+use Rattle.std.specs.Prelude.{[]}
 use Rattle.hc_reply.specs.Reply.{Reply}
 use Rattle.hc_plain.specs.Runs.{IsCanonical}
 use Rattle.hc_cmd.specs.declared.simulation.Simulation.{Simulation}

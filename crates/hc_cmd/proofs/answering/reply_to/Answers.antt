@@ -1,4 +1,4 @@
-use Rattle.std.proofs.Common.{◌≡◌, refl, sym, subst, ◌∙◌, List, ℕ, []}
+use Rattle.std.proofs.Common.{sym, subst, ◌∙◌, List, ℕ}
 use Rattle.hc_reply.specs.Sinks.{IsWhole, whole}
 use Rattle.hc_cmd.specs.Prepared.{reply_to}
 use Rattle.hc_cmd.proofs.Replying.{untouched, no_error, usage_alone}

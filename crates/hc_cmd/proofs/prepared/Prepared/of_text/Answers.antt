@@ -1,4 +1,3 @@
-use Rattle.std.proofs.Common.{◌≡◌, ap, refl, List, ℕ, []}
 use Rattle.hc_cmd.specs.Replies.{size, spelling}
 use Rattle.hc_cmd.proofs.Replying.{unparsed_gives, rejected_gives, simulates, simulation_gives, spelled_so, sized_so}
 use Rattle.hc_cmd.proofs.prepared.Prepared.of_text.Goals as goal
@@ -13,7 +12,7 @@ returns-in-Ok-accepted c =
 pub returns-in-Check : goal.returns-in-Check
 returns-in-Check c =
     rejected_gives c.args.request c.args.text.now c.in-Ok.tree (λ e. cc (c.in-Check.is, e)) (c.in-Ok.ensures {u = tt}).tree c.in-Err-accepted.refusal
-        (c.in-Err-accepted.ensures {u = tt})
+    (c.in-Err-accepted.ensures {u = tt})
 
 pub returns-in-Ok-print : goal.returns-in-Ok-print
 returns-in-Ok-print c =
@@ -27,4 +26,4 @@ returns-in-Ok-simulation_of_tree c =
 pub returns : goal.returns
 returns c =
     simulation_gives c.args.request c.args.text.now c.in-Ok.tree c.in-Simulate.settings c.in-Simulate.is (c.in-Ok.ensures {u = tt}).tree
-        c.in-Err-simulation_of_tree.refusal (c.in-Err-simulation_of_tree.ensures {u = tt})
+    c.in-Err-simulation_of_tree.refusal (c.in-Err-simulation_of_tree.ensures {u = tt})

@@ -1,4 +1,4 @@
-use Rattle.std.proofs.Common.{◌≡◌, ◌≤◌, refl, ap, sym, ◌∙◌, Err, subst, List, ℕ, Some, length, arith}
+use Rattle.std.proofs.Common.{refl, ap, sym, Err, subst, List, ℕ, arith}
 use Rattle.hc_world.specs.Reading.{IsAll}
 use Rattle.hc_world.proofs.ReadingLemmas.{all_told, past_told}
 use Rattle.hc_cmd.specs.Replies.{usage, unread, too_long}

@@ -1,4 +1,4 @@
-use Rattle.std.proofs.Common.{◌≡◌, refl, sym, ◌∙◌}
+use Rattle.std.proofs.Common.{refl, sym, ◌∙◌}
 use Rattle.hc_cmd.specs.Replies.{plain}
 use Rattle.hc_cmd.proofs.simulation.Simulation.of_system.Goals as goal
 
