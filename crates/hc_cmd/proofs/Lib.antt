@@ -1,2 +1,1 @@
-pub mod Defaults
 pub mod Replying

@@ -1,5 +1,5 @@
 -- From what a text gives to what the words and the source give, and from there to what stands.
-use Rattle.std.proofs.Common.{arith, ◌≡◌, ◌≢◌, ◌≤◌, ◌<◌, ℕ, List, length, Option, Some, None, [], Result, MatchResult, Ok, Err, ◌⊎◌, inl, inr, refl, sym, ap, subst, ◌∙◌}
+use Rattle.std.proofs.Common.{arith, ◌≡◌, ◌≢◌, ◌≤◌, ℕ, List, length, Option, Some, None, [], Result, MatchResult, Ok, Err, ◌⊎◌, inl, inr, refl, sym, ap, ◌∙◌}
 use Rattle.std.proofs.lemmas.List.{append-nil}
 use Rattle.hc_world.specs.Counts.{Rose}
 use Rattle.hc_world.specs.Reading.{IsAll}
@@ -11,26 +11,34 @@ use Rattle.hc_reply.specs.Sinks.{Stands, IsWhole, AddsFlushed}
 use Rattle.hc_reply.proofs.StandsLemmas.{whole_without_fault}
 use Rattle.hc_print.specs.Canonical.{canonical as canonical_spelling}
 use Rattle.hc_term.specs.Canonical.{canonical}
-use Rattle.hc_cmd.specs.declared.words.Request.{Request}
-use Rattle.hc_cmd.specs.declared.words.Request.TheVariants.{Simulate}
+use Rattle.hc_modules.specs.declared.flat.Flat.{Flat}
+use Rattle.hc_modules.specs.declared.flat.ModuleStop.{ModuleStop}
+use Rattle.hc_modules.specs.declared.flat.ModuleStop.TheVariants as expanding
+use Rattle.hc_modules.specs.Refusals.{IsExpansion}
+use Rattle.hc_modules.specs.Refusals as modules
+use Rattle.hc_finds.specs.declared.stop.CheckStop.{CheckStop}
+use Rattle.hc_finds.specs.declared.stop.CheckStop.TheVariants as check
+use Rattle.hc_check.specs.Checked as checks
+use Rattle.hc_term.specs.declared.system.System.{System}
+use Rattle.hc_words.specs.declared.requests.Request.{Request}
+use Rattle.hc_words.specs.declared.requests.Request.TheVariants.{Print, Simulate}
+use Rattle.hc_words.specs.declared.requests.Settings.{Settings}
+use Rattle.hc_words.specs.Requests.{Ask}
 use Rattle.hc_cmd.specs.declared.refusal.Refusal.{Refusal}
-use Rattle.hc_cmd.specs.declared.refusal.Refusal.TheVariants.{Usage, Unread, Memory, TooLong, NotBuilt, Unparsed}
+use Rattle.hc_cmd.specs.declared.refusal.Refusal.TheVariants.{Usage, Unread, Memory, TooLong, NotBuilt, Unparsed, Unexpanded, Unchecked}
+use Rattle.hc_cmd.specs.declared.simulation.Simulation.{Simulation}
 use Rattle.hc_cmd.specs.declared.prepared.Prepared.{Prepared}
 use Rattle.hc_cmd.specs.declared.prepared.Prepared.TheVariants as is
-use Rattle.hc_cmd.specs.Words.{request_of}
 use Rattle.hc_ast.specs.Counts.{name_too_long, number_unfit, syntax, too_deep, too_many_nodes}
 use Rattle.hc_parse.specs.declared.parsing.ParseStop.{ParseStop}
 use Rattle.hc_parse.specs.declared.parsing.ParseStop.TheVariants as stop
 use Rattle.hc_parse.specs.Stops.{IsStop}
-use Rattle.hc_cmd.specs.Refusals.{refused, status_of, status_of_stop}
-use Rattle.hc_cmd.specs.Replies.{spelled, Simulates, small, not_small, Answers, simulation, spelling, unparsed, status_at, simulated, Replies, usage, unread, no_memory, too_long, answered}
+use Rattle.hc_cmd.specs.Refusals.{refused, status_of, status_of_stop, status_of_module_stop, status_of_check_stop}
+use Rattle.hc_cmd.specs.Replies.{spelled, sized, size_of, Accepts, Rejects, unexpanded, unchecked, Simulates, plain, not_plain, Answers, size, simulation, spelling, unparsed, rejected, status_at, Replies, usage, unread, no_memory, too_long, answered}
 use Rattle.hc_cmd.specs.Complete.{IsReplyTo, IsComplete}
-use Rattle.hc_cmd.specs.Prepared.{reply_to, IsReady}
+use Rattle.hc_cmd.specs.Prepared.{reply_to, simulation_reply, IsReady, IsSimulated, SimulatesTree}
 use Rattle.hc_ast.specs.declared.tree.Tree.{Tree}
 use Rattle.hc_ast.specs.Source.{IsSource}
-
-some_same : {a b : Request} → Some a ≡ Some b → a ≡ b
-some_same e = cc
 
 -- what the stop of parsing gives
 pub unparsed_gives : (request : Request) (text : List ℕ) (s : ParseStop) → IsStop text s →
@@ -42,11 +50,119 @@ unparsed_gives request text (stop.TooDeep p) is = inr (unparsed too_deep p is re
 unparsed_gives request text (stop.TooManyNodes p) is = inr (unparsed too_many_nodes p is refl)
 unparsed_gives request text stop.Memory is = inl refl
 
+-- what the stop of expansion gives
+pub unexpanded_gives : (tree : Tree) (s : ModuleStop) → modules.IsStop tree s → (refused (Unexpanded s) ≡ refused Memory) ⊎ Rejects tree (refused (Unexpanded s))
+unexpanded_gives tree (expanding.RepeatedModule p) is = inr (unexpanded (expanding.RepeatedModule p) is refl)
+unexpanded_gives tree (expanding.RepeatedParameter p) is = inr (unexpanded (expanding.RepeatedParameter p) is refl)
+unexpanded_gives tree (expanding.ParameterWritten p) is = inr (unexpanded (expanding.ParameterWritten p) is refl)
+unexpanded_gives tree (expanding.TooManyProcesses p) is = inr (unexpanded (expanding.TooManyProcesses p) is refl)
+unexpanded_gives tree (expanding.RepeatedProcess p) is = inr (unexpanded (expanding.RepeatedProcess p) is refl)
+unexpanded_gives tree (expanding.UnknownModule p) is = inr (unexpanded (expanding.UnknownModule p) is refl)
+unexpanded_gives tree (expanding.WrongArgumentCount p) is = inr (unexpanded (expanding.WrongArgumentCount p) is refl)
+unexpanded_gives tree (expanding.WrongArgumentKind p) is = inr (unexpanded (expanding.WrongArgumentKind p) is refl)
+unexpanded_gives tree (expanding.TooManyStatements p) is = inr (unexpanded (expanding.TooManyStatements p) is refl)
+unexpanded_gives tree (expanding.TooManyNodes p) is = inr (unexpanded (expanding.TooManyNodes p) is refl)
+unexpanded_gives tree expanding.Memory is = inl refl
+
+-- what the stop of the checks gives
+pub unchecked_gives : (tree : Tree) (flat : Flat) → IsExpansion tree flat → (s : CheckStop) → checks.IsStop flat s →
+    (refused (Unchecked s) ≡ refused Memory) ⊎ Rejects tree (refused (Unchecked s))
+unchecked_gives tree flat from (check.TooMany what p) is = inr (unchecked flat from (check.TooMany what p) is refl)
+unchecked_gives tree flat from (check.DivisorNotLiteral p) is = inr (unchecked flat from (check.DivisorNotLiteral p) is refl)
+unchecked_gives tree flat from (check.ZeroDivisor p) is = inr (unchecked flat from (check.ZeroDivisor p) is refl)
+unchecked_gives tree flat from (check.RepeatedRate p) is = inr (unchecked flat from (check.RepeatedRate p) is refl)
+unchecked_gives tree flat from (check.RateEvolves p) is = inr (unchecked flat from (check.RateEvolves p) is refl)
+unchecked_gives tree flat from (check.DomainForm p) is = inr (unchecked flat from (check.DomainForm p) is refl)
+unchecked_gives tree flat from (check.NotAffine p) is = inr (unchecked flat from (check.NotAffine p) is refl)
+unchecked_gives tree flat from (check.RepeatedGuard p) is = inr (unchecked flat from (check.RepeatedGuard p) is refl)
+unchecked_gives tree flat from (check.SelfChannel p) is = inr (unchecked flat from (check.SelfChannel p) is refl)
+unchecked_gives tree flat from (check.TwoSenders p) is = inr (unchecked flat from (check.TwoSenders p) is refl)
+unchecked_gives tree flat from (check.TwoReceivers p) is = inr (unchecked flat from (check.TwoReceivers p) is refl)
+unchecked_gives tree flat from check.Memory is = inl refl
+
+-- what isn't accepted is refused for each request but printing
+pub rejected_gives : (request : Request) (text : List ℕ) (tree : Tree) → request ≢ Print → IsSource text tree → (f : Refusal) →
+    (refused f ≡ refused Memory) ⊎ Rejects tree (refused f) → (refused f ≡ refused Memory) ⊎ Answers request text (refused f)
+rejected_gives request text tree asked is f (inl e) = inl e
+rejected_gives request text tree asked is f (inr r) = inr (rejected asked tree is r)
+
+-- the simulation of a tree
+pub simulates : (request : Request) (text : List ℕ) (tree : Tree) (settings : Settings) (reply : Reply) → request ≡ Simulate settings → IsSource text tree →
+    SimulatesTree tree settings reply → Answers request text reply
+simulates request text tree settings reply asked is s = simulation settings asked tree is s.0 s.1 s.2 s.3
+
 -- what the simulation of a tree gives, its text gives
-pub simulation_gives : (request : Request) (text : List ℕ) (tree : Tree) → request ≡ Simulate → IsSource text tree → (f : Refusal) →
-    (refused f ≡ refused Memory) ⊎ Simulates tree (refused f) → (refused f ≡ refused Memory) ⊎ Answers request text (refused f)
-simulation_gives request text tree asked is f (inl e) = inl e
-simulation_gives request text tree asked is f (inr s) = inr (simulation asked tree is s)
+pub simulation_gives : (request : Request) (text : List ℕ) (tree : Tree) (settings : Settings) → request ≡ Simulate settings → IsSource text tree → (f : Refusal) →
+    (refused f ≡ refused Memory) ⊎ (SimulatesTree tree settings (refused f) ⊎ Rejects tree (refused f)) → (refused f ≡ refused Memory) ⊎ Answers request text (refused f)
+simulation_gives request text tree settings asked is f (inl e) = inl e
+simulation_gives request text tree settings asked is f (inr (inl s)) = inr (simulates request text tree settings (refused f) asked is s)
+simulation_gives request text tree settings asked is f (inr (inr r)) = inr (rejected (λ e. cc (asked, e)) tree is r)
+
+-- what isn't accepted isn't simulated
+pub rejected_tree : (tree : Tree) (settings : Settings) (f : Refusal) → (refused f ≡ refused Memory) ⊎ Rejects tree (refused f) →
+    (refused f ≡ refused Memory) ⊎ (SimulatesTree tree settings (refused f) ⊎ Rejects tree (refused f))
+rejected_tree tree settings f (inl e) = inl e
+rejected_tree tree settings f (inr r) = inr (inr r)
+
+-- what the simulation of a system gives, its tree gives
+pub system_gives : (tree : Tree) (flat : Flat) (system : System) (settings : Settings) → Accepts tree flat system → (r : Result Simulation Refusal) →
+    MatchResult r (λ s. IsSimulated s × Simulates settings system (simulation_reply s)) (λ f. (refused f ≡ refused Memory) ⊎ Simulates settings system (refused f)) →
+    MatchResult r (λ s. IsSimulated s × SimulatesTree tree settings (simulation_reply s))
+    (λ f. (refused f ≡ refused Memory) ⊎ (SimulatesTree tree settings (refused f) ⊎ Rejects tree (refused f)))
+system_gives tree flat system settings accepts (Ok s) h = (h.0, (flat, system, accepts, h.1))
+system_gives tree flat system settings accepts (Err f) (inl e) = inl e
+system_gives tree flat system settings accepts (Err f) (inr s) = inr (inl (flat, system, accepts, s))
+
+-- bytes that are the line of its size are the reply
+pub sized_so : (flat : Flat) (system : System) (bytes : List ℕ) → bytes ≡ size_of flat system →
+    (let reply : Reply = record { status = 0; out = bytes; err = [] } in reply) ≡ sized flat system
+sized_so flat system bytes e = ap (λ (out : List ℕ). (let reply : Reply = record { status = 0; out = out; err = [] } in reply)) e
+
+unparsed_not_2 : (s : ParseStop) → status_of_stop s ≢ 2
+unparsed_not_2 (stop.NameTooLong p) e = absurd (omega (arith, e))
+unparsed_not_2 (stop.NumberUnfit p) e = absurd (omega (arith, e))
+unparsed_not_2 (stop.Syntax p) e = absurd (omega (arith, e))
+unparsed_not_2 (stop.TooDeep p) e = absurd (omega (arith, e))
+unparsed_not_2 (stop.TooManyNodes p) e = absurd (omega (arith, e))
+unparsed_not_2 stop.Memory e = absurd (omega (arith, e))
+
+unexpanded_not_2 : (s : ModuleStop) → status_of_module_stop s ≢ 2
+unexpanded_not_2 (expanding.RepeatedModule p) e = absurd (omega (arith, e))
+unexpanded_not_2 (expanding.RepeatedParameter p) e = absurd (omega (arith, e))
+unexpanded_not_2 (expanding.ParameterWritten p) e = absurd (omega (arith, e))
+unexpanded_not_2 (expanding.TooManyProcesses p) e = absurd (omega (arith, e))
+unexpanded_not_2 (expanding.RepeatedProcess p) e = absurd (omega (arith, e))
+unexpanded_not_2 (expanding.UnknownModule p) e = absurd (omega (arith, e))
+unexpanded_not_2 (expanding.WrongArgumentCount p) e = absurd (omega (arith, e))
+unexpanded_not_2 (expanding.WrongArgumentKind p) e = absurd (omega (arith, e))
+unexpanded_not_2 (expanding.TooManyStatements p) e = absurd (omega (arith, e))
+unexpanded_not_2 (expanding.TooManyNodes p) e = absurd (omega (arith, e))
+unexpanded_not_2 expanding.Memory e = absurd (omega (arith, e))
+
+unchecked_not_2 : (s : CheckStop) → status_of_check_stop s ≢ 2
+unchecked_not_2 (check.TooMany what p) e = absurd (omega (arith, e))
+unchecked_not_2 (check.DivisorNotLiteral p) e = absurd (omega (arith, e))
+unchecked_not_2 (check.ZeroDivisor p) e = absurd (omega (arith, e))
+unchecked_not_2 (check.RepeatedRate p) e = absurd (omega (arith, e))
+unchecked_not_2 (check.RateEvolves p) e = absurd (omega (arith, e))
+unchecked_not_2 (check.DomainForm p) e = absurd (omega (arith, e))
+unchecked_not_2 (check.NotAffine p) e = absurd (omega (arith, e))
+unchecked_not_2 (check.RepeatedGuard p) e = absurd (omega (arith, e))
+unchecked_not_2 (check.SelfChannel p) e = absurd (omega (arith, e))
+unchecked_not_2 (check.TwoSenders p) e = absurd (omega (arith, e))
+unchecked_not_2 (check.TwoReceivers p) e = absurd (omega (arith, e))
+unchecked_not_2 check.Memory e = absurd (omega (arith, e))
+
+-- status 2 tells of the words alone
+pub usage_alone : (f : Refusal) → status_of f ≡ 2 → f ≡ Usage
+usage_alone Usage e = refl
+usage_alone Unread e = absurd (omega (arith, e))
+usage_alone Memory e = absurd (omega (arith, e))
+usage_alone TooLong e = absurd (omega (arith, e))
+usage_alone NotBuilt e = absurd (omega (arith, e))
+usage_alone (Unparsed s) e = absurd (unparsed_not_2 s e)
+usage_alone (Unexpanded s) e = absurd (unexpanded_not_2 s e)
+usage_alone (Unchecked s) e = absurd (unchecked_not_2 s e)
 
 -- bytes that are the canonical spelling are the reply
 pub spelled_so : (tree : Tree) (bytes : List ℕ) → bytes ≡ canonical_spelling tree →
@@ -56,11 +172,12 @@ spelled_so tree bytes e = ap (λ (out : List ℕ). (let reply : Reply = record {
 -- nothing is written on error
 pub no_error : (p : Prepared) → [] ≡ (reply_to p).err
 no_error (is.Simulation s) = refl
+no_error (is.Size line) = refl
 no_error (is.Spelling bytes) = refl
 
 module _ {S : Type 0} (left : S → Option (List ℕ)) (faults : S → ℕ) (words : List (List ℕ)) (before after : S) where
   -- what the text gives, the source gives
-  pub text_gives : (request : Request) (text : List ℕ) → request_of words ≡ Some request → IsAll (left before) text → length text ≤ 1048576 →
+  pub text_gives : (request : Request) (text : List ℕ) → Ask words request → IsAll (left before) text → length text ≤ 1048576 →
       faults after ≡ faults before → (r : Result Prepared Refusal) →
       MatchResult r (λ p. IsReady p × Answers request text (reply_to p)) (λ f. (refused f ≡ refused Memory) ⊎ Answers request text (refused f)) →
       MatchResult r (λ p. IsReady p × Replies left faults words before after (reply_to p)) (λ f. Replies left faults words before after (refused f))
@@ -84,6 +201,33 @@ module _ {S : Type 0} (left : S → Option (List ℕ)) (faults : S → ℕ) (wor
   stop_not_4 (stop.TooManyNodes p) e = absurd (omega (arith, e))
   stop_not_4 stop.Memory e = absurd (omega (arith, e))
 
+  module_stop_not_4 : (s : ModuleStop) → status_of_module_stop s ≢ 4
+  module_stop_not_4 (expanding.RepeatedModule p) e = absurd (omega (arith, e))
+  module_stop_not_4 (expanding.RepeatedParameter p) e = absurd (omega (arith, e))
+  module_stop_not_4 (expanding.ParameterWritten p) e = absurd (omega (arith, e))
+  module_stop_not_4 (expanding.TooManyProcesses p) e = absurd (omega (arith, e))
+  module_stop_not_4 (expanding.RepeatedProcess p) e = absurd (omega (arith, e))
+  module_stop_not_4 (expanding.UnknownModule p) e = absurd (omega (arith, e))
+  module_stop_not_4 (expanding.WrongArgumentCount p) e = absurd (omega (arith, e))
+  module_stop_not_4 (expanding.WrongArgumentKind p) e = absurd (omega (arith, e))
+  module_stop_not_4 (expanding.TooManyStatements p) e = absurd (omega (arith, e))
+  module_stop_not_4 (expanding.TooManyNodes p) e = absurd (omega (arith, e))
+  module_stop_not_4 expanding.Memory e = absurd (omega (arith, e))
+
+  check_stop_not_4 : (s : CheckStop) → status_of_check_stop s ≢ 4
+  check_stop_not_4 (check.TooMany what p) e = absurd (omega (arith, e))
+  check_stop_not_4 (check.DivisorNotLiteral p) e = absurd (omega (arith, e))
+  check_stop_not_4 (check.ZeroDivisor p) e = absurd (omega (arith, e))
+  check_stop_not_4 (check.RepeatedRate p) e = absurd (omega (arith, e))
+  check_stop_not_4 (check.RateEvolves p) e = absurd (omega (arith, e))
+  check_stop_not_4 (check.DomainForm p) e = absurd (omega (arith, e))
+  check_stop_not_4 (check.NotAffine p) e = absurd (omega (arith, e))
+  check_stop_not_4 (check.RepeatedGuard p) e = absurd (omega (arith, e))
+  check_stop_not_4 (check.SelfChannel p) e = absurd (omega (arith, e))
+  check_stop_not_4 (check.TwoSenders p) e = absurd (omega (arith, e))
+  check_stop_not_4 (check.TwoReceivers p) e = absurd (omega (arith, e))
+  check_stop_not_4 check.Memory e = absurd (omega (arith, e))
+
   refused_not_4 : (f : Refusal) → status_of f ≢ 4
   refused_not_4 Usage e = absurd (omega (arith, e))
   refused_not_4 Unread e = absurd (omega (arith, e))
@@ -91,17 +235,30 @@ module _ {S : Type 0} (left : S → Option (List ℕ)) (faults : S → ℕ) (wor
   refused_not_4 TooLong e = absurd (omega (arith, e))
   refused_not_4 NotBuilt e = absurd (omega (arith, e))
   refused_not_4 (Unparsed s) e = stop_not_4 s e
+  refused_not_4 (Unexpanded s) e = module_stop_not_4 s e
+  refused_not_4 (Unchecked s) e = check_stop_not_4 s e
 
-  simulates_not_4 : (tree : Tree) (reply : Reply) → Simulates tree reply → reply.status ≢ 4
-  simulates_not_4 tree reply (small task is parts e) h = not_4_at (canonical task).stop (sym (ap (λ (r : Reply). r.status) e) ∙ h)
-  simulates_not_4 tree reply (not_small none e) h = refused_not_4 NotBuilt (sym (ap (λ (r : Reply). r.status) e) ∙ h)
+  refusal_not_4 : (f : Refusal) (reply : Reply) → reply ≡ refused f → reply.status ≢ 4
+  refusal_not_4 f reply e h = refused_not_4 f (sym (ap (λ (r : Reply). r.status) e) ∙ h)
+
+  simulates_not_4 : (settings : Settings) (system : System) (reply : Reply) → Simulates settings system reply → reply.status ≢ 4
+  simulates_not_4 settings system reply (plain task is parts e) h = not_4_at (canonical task).stop (sym (ap (λ (r : Reply). r.status) e) ∙ h)
+  simulates_not_4 settings system reply (not_plain is e) h = refusal_not_4 NotBuilt reply e h
+
+  rejects_not_4 : (tree : Tree) (reply : Reply) → Rejects tree reply → reply.status ≢ 4
+  rejects_not_4 tree reply (unexpanded s is e) h = refusal_not_4 (Unexpanded s) reply e h
+  rejects_not_4 tree reply (unchecked flat from s is e) h = refusal_not_4 (Unchecked s) reply e h
+
+  done_not_4 : (reply : Reply) → reply.status ≡ 0 → reply.status ≢ 4
+  done_not_4 reply e h = let none : 0 ≡ 4 = sym e ∙ h in absurd (omega (arith, none))
 
   answer_not_4 : (request : Request) (text : List ℕ) (reply : Reply) → Answers request text reply → reply.status ≢ 4
-  answer_not_4 request text reply (simulation asked tree is s) h = simulates_not_4 tree reply s h
-  answer_not_4 request text reply (spelling asked tree is e) h =
-      let none : 0 ≡ 4 = sym (ap (λ (r : Reply). r.status) e) ∙ h in absurd (omega (arith, none))
+  answer_not_4 request text reply (size asked tree is flat system accepts e) h = done_not_4 reply (ap (λ (r : Reply). r.status) e) h
+  answer_not_4 request text reply (simulation settings asked tree is flat system accepts s) h = simulates_not_4 settings system reply s h
+  answer_not_4 request text reply (spelling asked tree is e) h = done_not_4 reply (ap (λ (r : Reply). r.status) e) h
   answer_not_4 request text reply (unparsed flaw place is e) h =
       let one : 1 ≡ 4 = sym (ap (λ (r : Reply). r.status) e) ∙ h in absurd (omega (arith, one))
+  answer_not_4 request text reply (rejected asked tree is r) h = rejects_not_4 tree reply r h
 
   pub reply_not_4 : (reply : Reply) → Replies left faults words before after reply → reply.status ≢ 4
   reply_not_4 reply (usage none same e) h = refused_not_4 Usage (sym (ap (λ (r : Reply). r.status) e) ∙ h)
@@ -110,33 +267,49 @@ module _ {S : Type 0} (left : S → Option (List ℕ)) (faults : S → ℕ) (wor
   reply_not_4 reply (too_long request text asked all long kept e) h = refused_not_4 TooLong (sym (ap (λ (r : Reply). r.status) e) ∙ h)
   reply_not_4 reply (answered request text asked all fits kept a) h = answer_not_4 request text reply a h
 
+  -- what is ready has no status 2
+  at_not_2 : (stop : Stop) → status_at stop ≢ 2
+  at_not_2 Terminated e = absurd (omega (arith, e))
+  at_not_2 Deadlock e = absurd (omega (arith, e))
+  at_not_2 Horizon e = absurd (omega (arith, e))
+  at_not_2 Limit e = absurd (omega (arith, e))
+  at_not_2 (Overflow p) e = absurd (omega (arith, e))
+
+  pub ready_not_2 : (p : Prepared) → (reply_to p).status ≢ 2
+  ready_not_2 (is.Simulation s) e = at_not_2 (canonical s.task).stop e
+  ready_not_2 (is.Size line) e = absurd (omega (arith, e))
+  ready_not_2 (is.Spelling bytes) e = absurd (omega (arith, e))
+
+  -- a reply to the source, where the words ask so
+  abbrev pub Replied : Reply → Type 0
+  Replied reply = (request : Request) × Ask words request × IsReplyTo request (left before) reply
+
   -- where the words ask and the source doesn't fail, the reply is that to the source, or there is want of memory
-  replied : (request : Request) (reply : Reply) → Replies left faults words before after reply → request_of words ≡ Some request →
-      (Rose (faults before) (faults after) → ⊥) → (reply.status ≡ 5) ⊎ IsReplyTo request (left before) reply
-  replied request reply (usage none same e) asked fine = absurd (cc)
-  replied request reply (unread other again rose e) asked fine = absurd (fine rose)
-  replied request reply (no_memory kept e) asked fine = inl (ap (λ (r : Reply). r.status) e)
-  replied request reply (too_long other text again all long kept e) asked fine =
-      inr (record { text = text; is_all = all; reply_is = inr (long, e) })
-  replied request reply (answered other text again all fits kept a) asked fine =
-      let same : other ≡ request = some_same (sym again ∙ asked) in
-      inr (record { text = text; is_all = all; reply_is = inl (fits, subst (λ (r : Request). Answers r text reply) same a) })
+  pub replied : (asked : Request) (reply : Reply) → Replies left faults words before after reply → Ask words asked →
+      (Rose (faults before) (faults after) → ⊥) → (reply.status ≡ 5) ⊎ Replied reply
+  replied asked reply (usage none same e) ask fine = absurd (none asked ask)
+  replied asked reply (unread other again rose e) ask fine = absurd (fine rose)
+  replied asked reply (no_memory kept e) ask fine = inl (ap (λ (r : Reply). r.status) e)
+  replied asked reply (too_long other text again all long kept e) ask fine =
+      inr (other, again, record { text = text; is_all = all; reply_is = inr (long, e) })
+  replied asked reply (answered other text again all fits kept a) ask fine =
+      inr (other, again, record { text = text; is_all = all; reply_is = inl (fits, a) })
 
 module _ {S O E : Type 0} (left : S → Option (List ℕ)) (faults : S → ℕ) (out_told : O → Option Written) (out_faults : O → ℕ)
     (err_told : E → Option Written) (err_faults : E → ℕ) (words : List (List ℕ)) (source source' : S) (out out' : O) (err err' : E) (status : ℕ) where
-  finished : (request : Request) (reply : Reply) → (reply.status ≡ 5) ⊎ IsReplyTo request (left source) reply →
+  finished : (reply : Reply) → (reply.status ≡ 5) ⊎ Replied left faults words source source' reply →
       (status ≡ reply.status) × IsWhole out_told out_faults out out' reply.out × IsWhole err_told err_faults err err' reply.err →
-      (status ≡ 5) ⊎ ((reply : Reply) × IsReplyTo request (left source) reply × (status ≡ reply.status) ×
+      (status ≡ 5) ⊎ ((request : Request) × Ask words request × (reply : Reply) × IsReplyTo request (left source) reply × (status ≡ reply.status) ×
       IsWhole out_told out_faults out out' reply.out × IsWhole err_told err_faults err err' reply.err)
-  finished request reply (inl e) h = inl (h.0 ∙ e)
-  finished request reply (inr r) h = inr (reply, r, h.0, h.1, h.2)
+  finished reply (inl e) h = inl (h.0 ∙ e)
+  finished reply (inr r) h = inr (r.0, r.1, reply, r.2, h.0, h.1, h.2)
 
   -- completeness follows from the reply that stands
   pub complete : (reply : Reply) → Replies left faults words source source' reply →
       Stands out_told out_faults err_told err_faults out out' err err' reply status →
       IsComplete left faults out_told out_faults err_told err_faults words source source' out out' err err' status
-  complete reply replies stands request asked fine out_fine err_fine =
-      finished request reply (replied left faults words source source' request reply replies asked fine) (whole_without_fault stands out_fine err_fine)
+  complete reply replies stands asked ask fine out_fine err_fine =
+      finished reply (replied left faults words source source' asked reply replies ask fine) (whole_without_fault stands out_fine err_fine)
 
 nothing_added : (o : Option Written) → AddsFlushed o o []
 nothing_added None = tt

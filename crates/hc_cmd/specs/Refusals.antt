@@ -4,9 +4,15 @@ use Rattle.hc_frac.specs.declared.place.Place.{Place}
 use Rattle.hc_ast.specs.Counts.{Flaw, name_too_long, number_unfit, syntax, too_deep, too_many_nodes}
 use Rattle.hc_parse.specs.declared.parsing.ParseStop as parse
 use Rattle.hc_parse.specs.declared.parsing.ParseStop.TheVariants as stop
+use Rattle.hc_modules.specs.declared.flat.ModuleStop as modules
+use Rattle.hc_modules.specs.declared.flat.ModuleStop.TheVariants as expanding
+use Rattle.hc_finds.specs.declared.stop.What as much
+use Rattle.hc_finds.specs.declared.stop.What.TheVariants as what
+use Rattle.hc_finds.specs.declared.stop.CheckStop as checks
+use Rattle.hc_finds.specs.declared.stop.CheckStop.TheVariants as check
 use Rattle.hc_reply.specs.Reply.{Reply}
 use Rattle.hc_cmd.specs.declared.refusal.Refusal.{Refusal}
-use Rattle.hc_cmd.specs.declared.refusal.Refusal.TheVariants.{Usage, Unread, Memory, TooLong, NotBuilt, Unparsed}
+use Rattle.hc_cmd.specs.declared.refusal.Refusal.TheVariants.{Usage, Unread, Memory, TooLong, NotBuilt, Unparsed, Unexpanded, Unchecked}
 
 -- a message as a line
 abbrev pub line : List ℕ → List ℕ
@@ -36,6 +42,48 @@ message_of_stop (stop.TooDeep p) = at_place p (message_of_flaw too_deep)
 message_of_stop (stop.TooManyNodes p) = at_place p (message_of_flaw too_many_nodes)
 message_of_stop stop.Memory = codes "out of memory"
 
+abbrev pub status_of_module_stop : modules.ModuleStop → ℕ
+status_of_module_stop expanding.Memory = 5
+status_of_module_stop _ = 1
+
+abbrev pub message_of_module_stop : modules.ModuleStop → List ℕ
+message_of_module_stop (expanding.RepeatedModule p) = at_place p (codes "module defined twice")
+message_of_module_stop (expanding.RepeatedParameter p) = at_place p (codes "parameter named twice")
+message_of_module_stop (expanding.ParameterWritten p) = at_place p (codes "value parameter written")
+message_of_module_stop (expanding.TooManyProcesses p) = at_place p (codes "too many processes")
+message_of_module_stop (expanding.RepeatedProcess p) = at_place p (codes "process named twice")
+message_of_module_stop (expanding.UnknownModule p) = at_place p (codes "unknown module")
+message_of_module_stop (expanding.WrongArgumentCount p) = at_place p (codes "wrong number of arguments")
+message_of_module_stop (expanding.WrongArgumentKind p) = at_place p (codes "wrong kind of argument")
+message_of_module_stop (expanding.TooManyStatements p) = at_place p (codes "too many statements")
+message_of_module_stop (expanding.TooManyNodes p) = at_place p (codes "too many expression nodes")
+message_of_module_stop expanding.Memory = codes "out of memory"
+
+-- what there is too much of
+abbrev pub too_many : much.What → List ℕ
+too_many what.Guards = codes "too many guards"
+too_many what.Channels = codes "too many channels"
+too_many what.Variables = codes "too many variables"
+too_many what.Nodes = codes "expression too long"
+
+abbrev pub status_of_check_stop : checks.CheckStop → ℕ
+status_of_check_stop check.Memory = 5
+status_of_check_stop _ = 1
+
+abbrev pub message_of_check_stop : checks.CheckStop → List ℕ
+message_of_check_stop (check.TooMany what p) = at_place p (too_many what)
+message_of_check_stop (check.DivisorNotLiteral p) = at_place p (codes "divisor is not a number")
+message_of_check_stop (check.ZeroDivisor p) = at_place p (codes "division by zero")
+message_of_check_stop (check.RepeatedRate p) = at_place p (codes "rate given twice")
+message_of_check_stop (check.RateEvolves p) = at_place p (codes "rate mentions an evolving variable")
+message_of_check_stop (check.DomainForm p) = at_place p (codes "domain is not a conjunction")
+message_of_check_stop (check.NotAffine p) = at_place p (codes "not affine")
+message_of_check_stop (check.RepeatedGuard p) = at_place p (codes "channel guarded twice")
+message_of_check_stop (check.SelfChannel p) = at_place p (codes "process on both ends of a channel")
+message_of_check_stop (check.TwoSenders p) = at_place p (codes "channel has two senders")
+message_of_check_stop (check.TwoReceivers p) = at_place p (codes "channel has two receivers")
+message_of_check_stop check.Memory = codes "out of memory"
+
 abbrev pub status_of : Refusal → ℕ
 status_of Usage = 2
 status_of Unread = 3
@@ -43,14 +91,18 @@ status_of Memory = 5
 status_of TooLong = 1
 status_of NotBuilt = 1
 status_of (Unparsed s) = status_of_stop s
+status_of (Unexpanded s) = status_of_module_stop s
+status_of (Unchecked s) = status_of_check_stop s
 
 abbrev pub message_of : Refusal → List ℕ
-message_of Usage = codes "usage: hcsp ACTION"
+message_of Usage = codes "usage: hcsp ACTION [N] [--seed K] [--horizon T] [--limit K] [--workers K] [--steps K] [--report]"
 message_of Unread = codes "read failed"
 message_of Memory = codes "out of memory"
 message_of TooLong = codes "source longer than 1048576 bytes"
 message_of NotBuilt = codes "not built"
 message_of (Unparsed s) = message_of_stop s
+message_of (Unexpanded s) = message_of_module_stop s
+message_of (Unchecked s) = message_of_check_stop s
 
 -- nothing stands on output, and the line on error
 abbrev pub refused : Refusal → Reply

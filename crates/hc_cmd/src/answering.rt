@@ -5,6 +5,7 @@ ghost use Rattle.std.specs.String.{string_bytes};
 ghost use Rattle.hc_world.specs.Counts.{Rose};
 ghost use Rattle.hc_reply.specs.Reply.{Reply};
 ghost use Rattle.hc_reply.specs.Sinks.{Stands};
+ghost use Rattle.hc_words.specs.Order.{AreInOrder};
 ghost use Rattle.hc_cmd.specs.Replies.{Replies};
 ghost use Rattle.hc_cmd.specs.Complete.{IsComplete};
 
@@ -23,8 +24,9 @@ fn reply_to<S: Source, O: Sink, E: Sink>(
     out: &mut O,
     err: &mut E,
 ) -> u8
-    ensures { (reply : Reply) × Replies S.left S.faults (map string_bytes words.now.items) source.old source.new reply
+    ensures reply { (reply : Reply) × Replies S.left S.faults (map string_bytes words.now.items) source.old source.new reply
         × Stands O.told O.faults E.told E.faults out.old out.new err.old err.new reply result }
+    ensures in_order { AreInOrder (map string_bytes words.now.items) → result ≡ 2 → ⊥ }
 {
     match Prepared::of_words(alloc, words, source) {
         Ok(prepared) => match prepared.write(out) {
@@ -49,6 +51,7 @@ pub fn answer<S: Source, O: Sink, E: Sink>(
 ) -> u8
     ensures reply { (reply : Reply) × Replies S.left S.faults (map string_bytes words.now.items) source.old source.new reply
         × Stands O.told O.faults E.told E.faults out.old out.new err.old err.new reply result }
+    ensures in_order { AreInOrder (map string_bytes words.now.items) → result ≡ 2 → ⊥ }
     ensures write_fault { result ≡ 4 → Rose (O.faults out.old) (O.faults out.new) ⊎ Rose (E.faults err.old) (E.faults err.new) }
     ensures complete { IsComplete S.left S.faults O.told O.faults E.told E.faults (map string_bytes words.now.items)
         source.old source.new out.old out.new err.old err.new result }

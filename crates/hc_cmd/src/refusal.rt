@@ -4,10 +4,16 @@ ghost use Rattle.std.specs.Prelude.{◌≡◌, ◌≤◌, length};
 ghost use Rattle.hc_cmd.specs.Refusals as spec;
 
 use arrayvec::ArrayString;
+use hc_check::{CheckStop, What};
 use hc_frac::Place;
+use hc_modules::ModuleStop;
 use hc_parse::ParseStop;
 use itoa::Buffer;
 use thiserror::Error;
+
+/// The words that a call may have.
+const USAGE: &str =
+    "usage: hcsp ACTION [N] [--seed K] [--horizon T] [--limit K] [--workers K] [--steps K] [--report]";
 
 /// Why a call writes nothing on output.
 #[derive(Clone, Copy, Debug, PartialEq, Eq, Error)]
@@ -24,6 +30,10 @@ pub enum Refusal {
     NotBuilt,
     #[error("the text isn't parsed")]
     Unparsed(ParseStop),
+    #[error("the source isn't expanded")]
+    Unexpanded(ModuleStop),
+    #[error("the source doesn't pass the checks")]
+    Unchecked(CheckStop),
 }
 
 impl Refusal {
@@ -34,8 +44,11 @@ impl Refusal {
         match self {
             Refusal::Usage => 2,
             Refusal::Unread => 3,
-            Refusal::Memory | Refusal::Unparsed(ParseStop::Memory) => 5,
-            Refusal::TooLong | Refusal::NotBuilt | Refusal::Unparsed(_) => 1,
+            Refusal::Memory
+            | Refusal::Unparsed(ParseStop::Memory)
+            | Refusal::Unexpanded(ModuleStop::Memory)
+            | Refusal::Unchecked(CheckStop::Memory) => 5,
+            _ => 1,
         }
     }
 
@@ -44,12 +57,14 @@ impl Refusal {
         ensures { result.bytes ≡ spec.line (spec.message_of self) }
     {
         match self {
-            Refusal::Usage => line_of("usage: hcsp ACTION"),
+            Refusal::Usage => line_of(USAGE),
             Refusal::Unread => line_of("read failed"),
             Refusal::Memory => line_of("out of memory"),
             Refusal::TooLong => line_of("source longer than 1048576 bytes"),
             Refusal::NotBuilt => line_of("not built"),
             Refusal::Unparsed(stop) => line_of_stop(stop),
+            Refusal::Unexpanded(stop) => line_of_module_stop(stop),
+            Refusal::Unchecked(stop) => line_of_check_stop(stop),
         }
     }
 }
@@ -67,6 +82,54 @@ fn line_of_stop(stop: ParseStop) -> ArrayString<128>
     }
 }
 
+fn line_of_module_stop(stop: ModuleStop) -> ArrayString<128>
+    ensures { result.bytes ≡ spec.line (spec.message_of_module_stop stop) }
+{
+    match stop {
+        ModuleStop::RepeatedModule { place } => line_at(place, "module defined twice"),
+        ModuleStop::RepeatedParameter { place } => line_at(place, "parameter named twice"),
+        ModuleStop::ParameterWritten { place } => line_at(place, "value parameter written"),
+        ModuleStop::TooManyProcesses { place } => line_at(place, "too many processes"),
+        ModuleStop::RepeatedProcess { place } => line_at(place, "process named twice"),
+        ModuleStop::UnknownModule { place } => line_at(place, "unknown module"),
+        ModuleStop::WrongArgumentCount { place } => line_at(place, "wrong number of arguments"),
+        ModuleStop::WrongArgumentKind { place } => line_at(place, "wrong kind of argument"),
+        ModuleStop::TooManyStatements { place } => line_at(place, "too many statements"),
+        ModuleStop::TooManyNodes { place } => line_at(place, "too many expression nodes"),
+        ModuleStop::Memory => line_of("out of memory"),
+    }
+}
+
+fn line_of_too_many(what: What, place: Place) -> ArrayString<128>
+    ensures { result.bytes ≡ spec.line (spec.at_place place (spec.too_many what)) }
+{
+    match what {
+        What::Guards => line_at(place, "too many guards"),
+        What::Channels => line_at(place, "too many channels"),
+        What::Variables => line_at(place, "too many variables"),
+        What::Nodes => line_at(place, "expression too long"),
+    }
+}
+
+fn line_of_check_stop(stop: CheckStop) -> ArrayString<128>
+    ensures { result.bytes ≡ spec.line (spec.message_of_check_stop stop) }
+{
+    match stop {
+        CheckStop::TooMany { what, place } => line_of_too_many(what, place),
+        CheckStop::DivisorNotLiteral { place } => line_at(place, "divisor is not a number"),
+        CheckStop::ZeroDivisor { place } => line_at(place, "division by zero"),
+        CheckStop::RepeatedRate { place } => line_at(place, "rate given twice"),
+        CheckStop::RateEvolves { place } => line_at(place, "rate mentions an evolving variable"),
+        CheckStop::DomainForm { place } => line_at(place, "domain is not a conjunction"),
+        CheckStop::NotAffine { place } => line_at(place, "not affine"),
+        CheckStop::RepeatedGuard { place } => line_at(place, "channel guarded twice"),
+        CheckStop::SelfChannel { place } => line_at(place, "process on both ends of a channel"),
+        CheckStop::TwoSenders { place } => line_at(place, "channel has two senders"),
+        CheckStop::TwoReceivers { place } => line_at(place, "channel has two receivers"),
+        CheckStop::Memory => line_of("out of memory"),
+    }
+}
+
 /// The line of a message.
 fn line_of(message: &str) -> ArrayString<128>
     requires { length message.now ≤ 120 }
@@ -81,7 +144,7 @@ fn line_of(message: &str) -> ArrayString<128>
 
 /// The line of a message about a place.
 fn line_at(place: Place, message: &str) -> ArrayString<128>
-    requires { length message.now ≤ 30 }
+    requires { length message.now ≤ 40 }
     ensures { result.bytes ≡ spec.line (spec.at_place place message.now) }
 {
     let mut buffer = Buffer::new();

@@ -1,27 +1,21 @@
 //! The simulation of a source: all that wants memory first, then the writing.
 
-ghost use Rattle.std.specs.Prelude.{◌≡◌, ◌⊎◌, MatchResult, pos};
-ghost use Rattle.hc_rational.specs.Rational.{whole};
+ghost use Rattle.std.specs.Prelude.{◌≡◌, ◌⊎◌, MatchResult};
 ghost use Rattle.hc_term.specs.Given.{HasParts};
 ghost use Rattle.hc_term.specs.declared.run.Stop.{Stop};
 ghost use Rattle.hc_reply.specs.Sinks.{PutsWhole};
+ghost use Rattle.hc_words.specs.declared.requests.Request.TheVariants as asked;
+ghost use Rattle.hc_words.specs.Requests.{MayRun};
 ghost use Rattle.hc_cmd.specs.Refusals.{refused};
 ghost use Rattle.hc_cmd.specs.Replies.{Simulates, status_at};
 
 use crate::refusal::Refusal;
-use hc_ast::Tree;
-use hc_frac::Frac;
 use hc_history::write_whole;
-use hc_plain::{CanonicalRun, canonical_run};
-use hc_small::{SmallStop, small_system};
+use hc_plain::{CanonicalRun, canonical_run, is_plain_system};
 use hc_term::{Stop, System, Task};
+use hc_words::Settings;
 use hc_world::{Failed, Sink};
 use std::alloc::Global;
-
-/// The horizon, in time units, where the words give none.
-const HORIZON: i64 = 100;
-/// The number of steps to which a run is limited, where the words give none.
-const LIMIT: u32 = 10_000;
 
 /// A simulation with all its memory: nothing is left but to write it.
 #[derive(Drop)]
@@ -33,18 +27,21 @@ pub struct Simulation {
 impl Simulation {
     ghost use Rattle.hc_cmd.specs.Prepared.{simulation_reply, IsSimulated};
 
-    /// The simulation of a source, or why there is none.
-    pub(crate) fn of_tree(alloc: Global, tree: &Tree) -> Result<Simulation, Refusal>
+    /// The simulation of a system with these settings, or why there is none.
+    pub(crate) fn of_system(
+        alloc: Global,
+        settings: Settings,
+        system: System,
+    ) -> Result<Simulation, Refusal>
+        requires { MayRun (asked.Simulate settings) }
         ensures { MatchResult result
-            (λ s. IsSimulated s × Simulates tree.now (simulation_reply s))
-            (λ r. (refused r ≡ refused Refusal.Memory) ⊎ Simulates tree.now (refused r)) }
+            (λ s. IsSimulated s × Simulates settings system (simulation_reply s))
+            (λ r. (refused r ≡ refused Refusal.Memory) ⊎ Simulates settings system (refused r)) }
     {
-        let system = match small_system(alloc, tree) {
-            Ok(system) => system,
-            Err(SmallStop::NotSmall) => return Err(Refusal::NotBuilt),
-            Err(SmallStop::Memory) => return Err(Refusal::Memory),
-        };
-        let task = default_task(system);
+        if !is_plain_system(&system) {
+            return Err(Refusal::NotBuilt);
+        }
+        let task = task_of(settings, system);
         match canonical_run(alloc, &task) {
             Ok(run) => Ok(Simulation { task, run }),
             Err(_) => Err(Refusal::Memory),
@@ -74,21 +71,12 @@ impl Simulation {
     }
 }
 
-/// The horizon where the words give none.
-fn default_horizon() -> Frac
-    ensures { result ≡ whole (pos 100) }
+/// The task of simulating the system with these settings.
+fn task_of(settings: Settings, system: System) -> Task
+    requires { MayRun (asked.Simulate settings) }
+    ensures { HasParts system settings.seed settings.horizon settings.limit result }
 {
-    match Frac::new(HORIZON, 1) {
-        Some(horizon) => horizon,
-        None => unreachable!(),
-    }
-}
-
-/// The task of simulating the system, where the words give no seed, no horizon and no limit.
-fn default_task(system: System) -> Task
-    ensures { HasParts system 0 (whole (pos 100)) 10000 result }
-{
-    match Task::new(system, 0, default_horizon(), LIMIT) {
+    match Task::new(system, settings.seed, settings.horizon, settings.limit) {
         Some(task) => task,
         None => unreachable!(),
     }

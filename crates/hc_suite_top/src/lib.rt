@@ -1,5 +1,9 @@
-//! Tests of the whole program over sources and sinks in memory, and of the canonical run by itself.
+//! Tests of the whole program over sources and sinks in memory.
 #![tactic(auto)]
 
+#[cfg(test)]
+mod calls;
+#[cfg(test)]
+mod lines;
 #[cfg(test)]
 mod tests;

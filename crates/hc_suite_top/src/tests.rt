@@ -1,69 +1,9 @@
-use hc_cmd::answer;
-use hc_frac::Frac;
-use hc_parse::parse;
-use hc_plain::canonical_run;
-use hc_small::small_system;
-use hc_term::{Stop, Task};
-use hc_world::{MemSink, MemSource};
+//! Sources, cuts of them, and faults.
+
+use crate::calls::{Faults, NONE, Wanted, expect_call, expect_reply};
 use std::alloc::Global;
 use std::process::Abort;
 use std::test::Fail;
-
-/// The calls of the source, of output and of error that fail, by their numbers.
-#[derive(Drop)]
-struct Faults<'a> {
-    source: &'a [u64],
-    out: &'a [u64],
-    err: &'a [u64],
-}
-
-/// What is to stand after a call.
-#[derive(Drop)]
-struct Wanted<'a> {
-    status: u8,
-    out: &'a str,
-    err: &'a str,
-}
-
-const NONE: Faults<'static> = Faults {
-    source: &[],
-    out: &[],
-    err: &[],
-};
-
-/// Simulates the text, and compares the status and what stands on output and error.
-fn expect_reply(
-    rt: &impl Abort,
-    alloc: Global,
-    text: &[u8],
-    faults: &Faults,
-    wanted: &Wanted,
-) -> Result<(), Fail> {
-    expect_call(rt, alloc, "simulate", text, faults, wanted)
-}
-
-/// Does the action with the text, and compares the status and what stands on output and error.
-fn expect_call(
-    rt: &impl Abort,
-    alloc: Global,
-    action: &str,
-    text: &[u8],
-    faults: &Faults,
-    wanted: &Wanted,
-) -> Result<(), Fail> {
-    let mut words = Vec::new(alloc);
-    words.push(String::from_str(alloc, "hcsp")?)?;
-    words.push(String::from_str(alloc, action)?)?;
-    let bytes = Vec::from_slice(alloc, text)?;
-    let mut source = MemSource::open(bytes, 4096, Vec::from_slice(alloc, faults.source)?);
-    let mut out = MemSink::open(alloc, 4096, Vec::from_slice(alloc, faults.out)?)?;
-    let mut err = MemSink::open(alloc, 4096, Vec::from_slice(alloc, faults.err)?)?;
-    let status = answer(alloc, &words, &mut source, &mut out, &mut err);
-    assert_eq!(rt; status, wanted.status);
-    assert_eq!(rt; out.bytes(), wanted.out.as_bytes());
-    assert_eq!(rt; err.bytes(), wanted.err.as_bytes());
-    Ok(())
-}
 
 fn expect_trace(
     rt: &impl Abort,
@@ -81,10 +21,15 @@ fn expect_trace(
 }
 
 #[test]
-fn small_sources_are_simulated(rt: HostRuntime) -> Result<(), Fail> {
+fn plain_sources_are_simulated(rt: HostRuntime) -> Result<(), Fail> {
     let rows = [
         (
             "system P = (skip) endsystem",
+            0,
+            "hcsp-trace 1\nend terminated 0\n",
+        ),
+        (
+            "module M(): begin skip end endmodule system P = (skip) || Q = M() endsystem",
             0,
             "hcsp-trace 1\nend terminated 0\n",
         ),
@@ -132,16 +77,27 @@ fn other_texts_are_refused(rt: HostRuntime) -> Result<(), Fail> {
         ("system P = (x := 1 + 1) endsystem", "hcsp: not built\n"),
         (
             "system P = (c!1) || Q = (c!1) endsystem",
-            "hcsp: not built\n",
+            "hcsp: 1:26: channel has two senders\n",
         ),
-        ("system P = (c!1; c?x) endsystem", "hcsp: not built\n"),
+        (
+            "system P = (c!1; c?x) endsystem",
+            "hcsp: 1:18: process on both ends of a channel\n",
+        ),
         (
             "system P = (skip) || P = (skip) endsystem",
-            "hcsp: not built\n",
+            "hcsp: 1:22: process named twice\n",
         ),
         (
-            "module M(): begin skip end endmodule system P = (skip) endsystem",
-            "hcsp: not built\n",
+            "system P = (<x_dot = x & true>) endsystem",
+            "hcsp: 1:22: rate mentions an evolving variable\n",
+        ),
+        (
+            "system P = (<x_dot = 1, y_dot = 1 & x * y < 2>) endsystem",
+            "hcsp: 1:39: not affine\n",
+        ),
+        (
+            "system P = N(c) endsystem",
+            "hcsp: 1:12: unknown module\n",
         ),
         ("system P = (", "hcsp: 1:13: syntax\n"),
         ("", "hcsp: 1:1: syntax\n"),
@@ -308,55 +264,19 @@ fn faults_of_reading_and_of_error_are_told(rt: HostRuntime) -> Result<(), Fail> 
     expect_reply(&rt, rt.alloc(), b"system", &faults, &cut)
 }
 
-/// The stop of the canonical run, and the clock there.
-fn stop_of(
-    alloc: Global,
-    text: &str,
-    horizon: i64,
-    limit: u32,
-) -> Result<Option<(Stop, Frac)>, Fail> {
-    let bytes = text.as_bytes();
-    if bytes.len() > 1000 {
-        return Ok(None);
-    }
-    let Ok(tree) = parse(alloc, bytes) else {
-        return Ok(None);
-    };
-    let Ok(system) = small_system(alloc, &tree) else {
-        return Ok(None);
-    };
-    let Some(horizon) = Frac::new(horizon, 1) else {
-        return Ok(None);
-    };
-    let Some(task) = Task::new(system, 0, horizon, limit) else {
-        return Ok(None);
-    };
-    let run = canonical_run(alloc, &task)?;
-    Ok(Some((run.stop, run.clock)))
-}
-
 #[test]
-fn runs_stop_at_the_limit_and_at_overflow(rt: HostRuntime) -> Result<(), Fail> {
-    let skips = stop_of(
-        rt.alloc(),
-        "system P = (skip; skip; skip; skip) endsystem",
-        100,
-        3,
-    )?;
-    assert_eq!(rt; skips, Some((Stop::Limit, Frac::zero())));
-    let ended = stop_of(
-        rt.alloc(),
-        "system P = (skip; skip; skip; skip) endsystem",
-        100,
-        5,
-    )?;
-    assert_eq!(rt; ended, Some((Stop::Terminated, Frac::zero())));
-    let most = 9_223_372_036_854_775_807;
-    let text = "system P = (wait(9223372036854775807); wait(1)) endsystem";
-    let Some(end) = Frac::new(most, 1) else {
-        return Ok(());
+fn sources_are_checked(rt: HostRuntime) -> Result<(), Fail> {
+    let tank = "module Tank(ch sense, ch act, val h0):\nbegin\n  h := h0; v := 1;\n  (<h_dot = v & true> |> [](sense!h --> skip, act?v --> skip))**\nend\nendmodule\nmodule Control(ch sense, ch act, val period):\nbegin\n  (wait(period); sense?y; if y >= 7 then act!(-1) else act!1 endif)**\nend\nendmodule\nsystem\n  T = Tank(s, a, 5) || C = Control(s, a, 2)\nendsystem\n";
+    let size = Wanted {
+        status: 0,
+        out: "accepted processes 2 channels 2 statements 12\n",
+        err: "",
     };
-    let overflow = stop_of(rt.alloc(), text, most, 10_000)?;
-    assert_eq!(rt; overflow, Some((Stop::Overflow { process: Some(0) }, end)));
-    Ok(())
+    expect_call(&rt, rt.alloc(), "check", tank.as_bytes(), &NONE, &size)?;
+    let unbuilt = Wanted {
+        status: 1,
+        out: "",
+        err: "hcsp: not built\n",
+    };
+    expect_reply(&rt, rt.alloc(), tank.as_bytes(), &NONE, &unbuilt)
 }

@@ -4,4 +4,4 @@ use Rattle.hc_cmd.proofs.answering.answer.Goals as goal
 pub returns-clause-complete : goal.returns-clause-complete
 returns-clause-complete g c =
     complete g.S.Source.left g.S.Source.faults g.O.Sink.told g.O.Sink.faults g.E.Sink.told g.E.Sink.faults _
-    c.args.source.now _ c.args.out.now _ c.args.err.now _ _ c.reply_to.ensures.0 c.reply_to.ensures.1 c.reply_to.ensures.2
+    c.args.source.now _ c.args.out.now _ c.args.err.now _ _ c.reply_to.ensures.reply.0 c.reply_to.ensures.reply.1 c.reply_to.ensures.reply.2

@@ -1,0 +1,5 @@
+pub mod Numbered
+pub mod Numberings
+pub mod Checked
+pub mod Laws
+pub mod Accepted

@@ -1,0 +1,10 @@
+//! Laws of the definitions.
+
+ghost use Rattle.hc_check.specs.Laws.{OneSystem, OneRefusal, CheckedIsNotRefused};
+
+/// What holds of all expanded sources. There is nothing to run: the clauses are the laws.
+pub fn systems()
+    ensures one_system { OneSystem }
+    ensures one_refusal { OneRefusal }
+    ensures not_refused { CheckedIsNotRefused }
+{}

@@ -1,0 +1,27 @@
+-- Parts one after another.
+use Rattle.std.proofs.Common.{◌≡◌, ap, ◌∙◌, ℕ, ◌+◌, ◌<◌, List, ◌∷◌, flat_map, drop, get_or, length, slice_get, Some, None}
+use Rattle.std.proofs.lemmas.List.{drop_more}
+use Rattle.hc_frac.specs.declared.place.Place.{Place}
+use Rattle.hc_finds.specs.declared.parts.Part as program
+use Rattle.hc_finds.specs.declared.rules.Rule.{Rule}
+use Rattle.hc_finds.specs.Rules.{breaks, refused_by, broken}
+use Rattle.hc_finds.specs.Seen.{part_of, seen}
+use Rattle.hc_finds.proofs.First.{said-some, said-none}
+
+-- from number i on
+pub seen-more : (ps : List program.Part) (i : ℕ) (d : program.Part) → i < length ps
+    → seen (drop i ps) ≡ part_of (get_or ps i d) ∷ seen (drop (i + 1) ps)
+seen-more ps i d h = ap seen (drop_more ps i d h)
+
+pub broken-here : (r : Rule) (ps : List program.Part) (i : ℕ) (d : program.Part) (p : Place) → i < length ps
+    → slice_get (breaks r (part_of (get_or ps i d))) 0 ≡ Some p → slice_get (broken r (seen (drop i ps))) 0 ≡ Some (refused_by r p)
+broken-here r ps i d p h e =
+    ap (λ xs. slice_get (broken r xs) 0) (seen-more ps i d h)
+    ∙ said-some (refused_by r) (breaks r (part_of (get_or ps i d))) (flat_map (breaks r) (seen (drop (i + 1) ps))) p e
+
+pub broken-later : (r : Rule) (ps : List program.Part) (i : ℕ) (d : program.Part) → i < length ps
+    → slice_get (breaks r (part_of (get_or ps i d))) 0 ≡ None
+    → slice_get (broken r (seen (drop i ps))) 0 ≡ slice_get (broken r (seen (drop (i + 1) ps))) 0
+broken-later r ps i d h e =
+    ap (λ xs. slice_get (broken r xs) 0) (seen-more ps i d h)
+    ∙ said-none (refused_by r) (breaks r (part_of (get_or ps i d))) (flat_map (breaks r) (seen (drop (i + 1) ps))) e

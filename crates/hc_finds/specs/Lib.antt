@@ -1,0 +1,11 @@
+pub mod Parts
+pub mod Exprs
+pub mod Names
+pub mod First
+pub mod Looks
+pub mod Rules
+pub mod Uses
+pub mod Seen
+pub mod Limits
+pub mod Tally
+pub mod Refusals

@@ -1,0 +1,213 @@
+//! What is looked for in expressions and conditions, each time the first in the order of the text.
+
+ghost use Rattle.std.specs.Prelude.{◌≡◌, false, map, slice_get, flat_map};
+ghost use Rattle.hc_finds.specs.Exprs as spec;
+ghost use Rattle.hc_finds.specs.Looks.{evolving};
+ghost use Rattle.hc_modules.specs.Finds as found;
+
+use hc_ast::{CondKind, CondTree, ExprKind, ExprTree, Op, RateTree};
+use hc_frac::{Name, Place};
+
+/// The place, where the test holds.
+pub(crate) fn only_if(holds: bool, place: Place) -> Option<Place>
+    ensures { result ≡ slice_get (found.only_if holds place) 0 }
+{
+    if holds { Some(place) } else { None }
+}
+
+/// The first divisor that is no number, in an expression that is a divisor itself or not.
+#[tactic(auto, using(crate::proofs::First::firsts, crate::proofs::ExprForms::forms))]
+pub(crate) fn odd_divisor(divides: bool, expr: &ExprTree) -> Option<Place>
+    ensures { result ≡ slice_get (spec.odd_divisors divides expr.now) 0 }
+{
+    match &expr.kind {
+        ExprKind::Number(_) => None,
+        ExprKind::Name(_) => only_if(divides, expr.place),
+        ExprKind::Neg(part) => {
+            let here = only_if(divides, expr.place);
+            here.or(odd_divisor(false, part.get()))
+        }
+        ExprKind::Binary(op, left, right) => {
+            let before = odd_divisor(false, left.get());
+            let here = only_if(divides, expr.place);
+            let behind = odd_divisor(is_division(*op), right.get());
+            before.or(here).or(behind)
+        }
+    }
+}
+
+fn is_division(op: Op) -> bool
+    ensures { result ≡ spec.is_division op }
+{
+    match op {
+        Op::Div => true,
+        Op::Add | Op::Sub | Op::Mul => false,
+    }
+}
+
+fn is_product(op: Op) -> bool
+    ensures { result ≡ spec.is_product op }
+{
+    match op {
+        Op::Mul => true,
+        Op::Add | Op::Sub | Op::Div => false,
+    }
+}
+
+/// The first divisor that is 0.
+#[tactic(auto, using(crate::proofs::First::firsts, crate::proofs::ExprForms::forms))]
+pub(crate) fn nought_divisor(divides: bool, expr: &ExprTree) -> Option<Place>
+    ensures { result ≡ slice_get (spec.nought_divisors divides expr.now) 0 }
+{
+    match &expr.kind {
+        ExprKind::Number(number) => only_if(divides && number.digits() == 0, expr.place),
+        ExprKind::Name(_) => None,
+        ExprKind::Neg(part) => nought_divisor(false, part.get()),
+        ExprKind::Binary(op, left, right) => {
+            let before = nought_divisor(false, left.get());
+            before.or(nought_divisor(is_division(*op), right.get()))
+        }
+    }
+}
+
+/// Whether the variable has one of these rates.
+pub(crate) fn is_evolving(rates: &[RateTree], name: &Name) -> bool
+    ensures { result ≡ spec.is_among (evolving rates.now) name.now }
+{
+    for rate in rates {
+        if rate.variable == *name {
+            return true;
+        }
+    }
+    false
+}
+
+/// The first variable in an expression that has one of these rates.
+#[tactic(auto, using(crate::proofs::First::firsts, crate::proofs::ExprForms::forms))]
+pub(crate) fn evolving_name(rates: &[RateTree], expr: &ExprTree) -> Option<Place>
+    ensures { result ≡ slice_get (flat_map (λ n. found.only_if (spec.is_among (evolving rates.now) n.word) n.place) (spec.names_in expr.now)) 0 }
+{
+    match &expr.kind {
+        ExprKind::Number(_) => None,
+        ExprKind::Name(name) => only_if(is_evolving(rates, name), expr.place),
+        ExprKind::Neg(part) => evolving_name(rates, part.get()),
+        ExprKind::Binary(_, left, right) => {
+            let before = evolving_name(rates, left.get());
+            before.or(evolving_name(rates, right.get()))
+        }
+    }
+}
+
+/// Whether a variable with one of these rates stands in an expression, and its first product with one on both sides.
+#[derive(Clone, Copy, Drop)]
+pub(crate) struct Moves {
+    pub(crate) moves: bool,
+    pub(crate) product: Option<Place>,
+}
+
+#[tactic(auto, using(crate::proofs::First::firsts, crate::proofs::ExprForms::forms))]
+pub(crate) fn moves_of(rates: &[RateTree], expr: &ExprTree) -> Moves
+    ensures moves { result.moves ≡ (spec.moves_of (evolving rates.now) expr.now).moves }
+    ensures product { result.product ≡ slice_get (spec.moves_of (evolving rates.now) expr.now).products 0 }
+{
+    match &expr.kind {
+        ExprKind::Number(_) => Moves {
+            moves: false,
+            product: None,
+        },
+        ExprKind::Name(name) => Moves {
+            moves: is_evolving(rates, name),
+            product: None,
+        },
+        ExprKind::Neg(part) => moves_of(rates, part.get()),
+        ExprKind::Binary(op, left, right) => {
+            let left = moves_of(rates, left.get());
+            let right = moves_of(rates, right.get());
+            let here = only_if(is_product(*op) & (left.moves & right.moves), expr.place);
+            Moves {
+                moves: left.moves | right.moves,
+                product: left.product.or(here).or(right.product),
+            }
+        }
+    }
+}
+
+/// The first divisor that is no number, in the sides of a condition's comparisons.
+#[tactic(auto, using(crate::proofs::First::firsts, crate::proofs::ExprForms::forms))]
+pub(crate) fn odd_divisor_in(cond: &CondTree) -> Option<Place>
+    ensures { result ≡ slice_get (flat_map (spec.odd_divisors false) (spec.sides cond.now)) 0 }
+{
+    match &cond.kind {
+        CondKind::True | CondKind::False => None,
+        CondKind::Compare(_, left, right) => {
+            let before = odd_divisor(false, left.get());
+            before.or(odd_divisor(false, right.get()))
+        }
+        CondKind::Not(part) => odd_divisor_in(part.get()),
+        CondKind::And(left, right) => odd_divisor_in(left.get()).or(odd_divisor_in(right.get())),
+        CondKind::Or(left, right) => odd_divisor_in(left.get()).or(odd_divisor_in(right.get())),
+    }
+}
+
+/// The first divisor that is 0.
+#[tactic(auto, using(crate::proofs::First::firsts, crate::proofs::ExprForms::forms))]
+pub(crate) fn nought_divisor_in(cond: &CondTree) -> Option<Place>
+    ensures { result ≡ slice_get (flat_map (spec.nought_divisors false) (spec.sides cond.now)) 0 }
+{
+    match &cond.kind {
+        CondKind::True | CondKind::False => None,
+        CondKind::Compare(_, left, right) => {
+            let before = nought_divisor(false, left.get());
+            before.or(nought_divisor(false, right.get()))
+        }
+        CondKind::Not(part) => nought_divisor_in(part.get()),
+        CondKind::And(left, right) => nought_divisor_in(left.get()).or(nought_divisor_in(
+            right.get(),
+        )),
+        CondKind::Or(left, right) => nought_divisor_in(left.get()).or(nought_divisor_in(
+            right.get(),
+        )),
+    }
+}
+
+/// The first product with variables that have one of these rates on both sides.
+#[tactic(auto, using(crate::proofs::First::firsts, crate::proofs::ExprForms::forms))]
+pub(crate) fn product_in(rates: &[RateTree], cond: &CondTree) -> Option<Place>
+    ensures { result ≡ slice_get (flat_map (λ e. (spec.moves_of (evolving rates.now) e).products) (spec.sides cond.now)) 0 }
+{
+    match &cond.kind {
+        CondKind::True | CondKind::False => None,
+        CondKind::Compare(_, left, right) => {
+            let before = moves_of(rates, left.get()).product;
+            before.or(moves_of(rates, right.get()).product)
+        }
+        CondKind::Not(part) => product_in(rates, part.get()),
+        CondKind::And(left, right) => product_in(rates, left.get()).or(product_in(
+            rates,
+            right.get(),
+        )),
+        CondKind::Or(left, right) => product_in(rates, left.get()).or(product_in(
+            rates,
+            right.get(),
+        )),
+    }
+}
+
+/// The first `||` or `!` of a condition.
+#[tactic(auto, using(crate::proofs::First::firsts, crate::proofs::ExprForms::forms))]
+pub(crate) fn mixed_in(cond: &CondTree) -> Option<Place>
+    ensures { result ≡ slice_get (spec.mixed_in cond.now) 0 }
+{
+    match &cond.kind {
+        CondKind::True | CondKind::False | CondKind::Compare(..) => None,
+        CondKind::Not(_) => Some(cond.place),
+        CondKind::And(left, right) => {
+            let before = mixed_in(left.get());
+            before.or(mixed_in(right.get()))
+        }
+        CondKind::Or(left, _) => {
+            let before = mixed_in(left.get());
+            before.or(Some(cond.place))
+        }
+    }
+}

@@ -1,0 +1,230 @@
+//! The limits on guards, channels, variables and nodes.
+
+ghost use Rattle.std.specs.Prelude.{◌≡◌, ◌++◌, [], map, min, nat_lt, length, flat_map, slice_get, Some, OnOk, IfErr, option_map};
+ghost use Rattle.hc_modules.specs.Finds.{only_if};
+ghost use Rattle.hc_modules.specs.Outermost.{of_io};
+ghost use Rattle.hc_modules.specs.Sizes as size;
+ghost use Rattle.hc_finds.specs.declared.stop.What.TheVariants as what;
+ghost use Rattle.hc_finds.specs.declared.stop.CheckStop.TheVariants.{TooMany};
+ghost use Rattle.hc_finds.specs.Limits as spec;
+ghost use Rattle.hc_finds.specs.Seen.{part_of, seen};
+ghost use Rattle.hc_finds.specs.First.{IsFirst};
+ghost use Rattle.hc_finds.specs.Tally as tally;
+
+use crate::exprs::only_if;
+use crate::names::{note, note_variables};
+use crate::parts::Part;
+use crate::stop::{CheckStop, What};
+use hc_ast::{CondKind, CondTree, ExprKind, ExprTree, IoTree};
+use hc_frac::{Name, Place};
+use indexmap::IndexSet;
+
+const MOST_GUARDS: usize = 32;
+
+const MOST_CHANNELS: usize = 256;
+
+const MOST_VARIABLES: usize = 64;
+
+const MOST_NODES: u32 = 200;
+
+/// The nodes of an expression.
+fn nodes_of(expr: &ExprTree) -> u32
+    ensures { result ≡ min (size.nodes expr.now) 4294967295 }
+{
+    match &expr.kind {
+        ExprKind::Number(_) | ExprKind::Name(_) => 1,
+        ExprKind::Neg(part) => nodes_of(part.get()).saturating_add(1),
+        ExprKind::Binary(_, left, right) => {
+            let left = nodes_of(left.get());
+            left.saturating_add(nodes_of(right.get())).saturating_add(1)
+        }
+    }
+}
+
+/// Those of a condition, its expressions counted.
+fn nodes_of_cond(cond: &CondTree) -> u32
+    ensures { result ≡ min (size.cond_nodes cond.now) 4294967295 }
+{
+    match &cond.kind {
+        CondKind::True | CondKind::False => 1,
+        CondKind::Compare(_, left, right) => {
+            let left = nodes_of(left.get());
+            left.saturating_add(nodes_of(right.get())).saturating_add(1)
+        }
+        CondKind::Not(part) => nodes_of_cond(part.get()).saturating_add(1),
+        CondKind::And(left, right) => {
+            let left = nodes_of_cond(left.get());
+            left.saturating_add(nodes_of_cond(right.get()))
+                .saturating_add(1)
+        }
+        CondKind::Or(left, right) => {
+            let left = nodes_of_cond(left.get());
+            left.saturating_add(nodes_of_cond(right.get()))
+                .saturating_add(1)
+        }
+    }
+}
+
+/// The root of an expression of more than 200 nodes.
+fn long_expr(expr: &ExprTree) -> Option<Place>
+    ensures { result ≡ slice_get (only_if (nat_lt 200 (size.nodes expr.now)) expr.now.place) 0 }
+{
+    only_if(nodes_of(expr) > MOST_NODES, expr.place)
+}
+
+/// The root of a condition of more than 200 nodes.
+fn long_cond(cond: &CondTree) -> Option<Place>
+    ensures { result ≡ slice_get (only_if (nat_lt 200 (size.cond_nodes cond.now)) cond.now.place) 0 }
+{
+    only_if(nodes_of_cond(cond) > MOST_NODES, cond.place)
+}
+
+fn long_sent(io: &IoTree) -> Option<Place>
+    ensures { result ≡ slice_get (flat_map (λ o. only_if (nat_lt 200 o.size) o.place) (of_io io.now)) 0 }
+{
+    match io {
+        IoTree::Send { channel: _, value } => long_expr(value),
+        IoTree::Receive { .. } => None,
+    }
+}
+
+/// The root of the outermost expression or condition of a part, where it has more than 200 nodes.
+fn long_root(part: Part<'_>) -> Option<Place>
+    ensures { result ≡ slice_get (spec.nodes_beyond (part_of part.entry)) 0 }
+{
+    match part {
+        Part::Assign { value, .. } | Part::Compute { value, .. } => long_expr(value),
+        Part::Test { test, .. } => long_cond(test),
+        Part::Communicate { io, .. } | Part::Guard { io, .. } => long_sent(io),
+        Part::Rate { rate, .. } => long_expr(&rate.value),
+        Part::Domain { domain, .. } => long_cond(domain),
+    }
+}
+
+/// The statement, branch or rate that a part belongs to.
+fn place_of(part: Part<'_>) -> Place
+    ensures { result ≡ spec.place_of (part_of part.entry) }
+{
+    match part {
+        Part::Assign { place, .. }
+        | Part::Compute { place, .. }
+        | Part::Test { place, .. }
+        | Part::Communicate { place, .. }
+        | Part::Domain { place, .. }
+        | Part::Guard { place, .. } => place,
+        Part::Rate { rate, .. } => rate.place,
+    }
+}
+
+/// The channel that a part names.
+fn channel_of<'a>(part: Part<'a>) -> Option<&'a Name>
+    ensures { option_map (λ x. x.now) result ≡ slice_get (spec.channels_in (part_of part.entry)) 0 }
+{
+    match part {
+        Part::Communicate { io, .. } | Part::Guard { io, .. } => match io {
+            IoTree::Send { channel, .. } | IoTree::Receive { channel, .. } => Some(channel),
+        },
+        _ => None,
+    }
+}
+
+fn too_many(what: What, place: Place) -> CheckStop
+    ensures { result ≡ TooMany what place }
+{
+    CheckStop::TooMany { what, place }
+}
+
+/// A branch behind 32 others is refused.
+fn limit_guards(part: Part<'_>) -> Result<(), CheckStop>
+    ensures ok { OnOk result (spec.guards_beyond (part_of part.entry) ≡ []) }
+    ensures stop { IfErr result (IsFirst (map (TooMany what.Guards) (spec.guards_beyond (part_of part.entry)))) }
+{
+    match part {
+        Part::Guard { earlier, place, .. } => {
+            if earlier.len() >= MOST_GUARDS {
+                return Err(too_many(What::Guards, place));
+            }
+            Ok(())
+        }
+        _ => Ok(()),
+    }
+}
+
+/// An outermost expression or condition of more than 200 nodes is refused.
+fn limit_nodes(part: Part<'_>) -> Result<(), CheckStop>
+    ensures ok { OnOk result (spec.nodes_beyond (part_of part.entry) ≡ []) }
+    ensures stop { IfErr result (IsFirst (map (TooMany what.Nodes) (spec.nodes_beyond (part_of part.entry)))) }
+{
+    match long_root(part) {
+        Some(place) => Err(too_many(What::Nodes, place)),
+        None => Ok(()),
+    }
+}
+
+/// The names so far, each at its first occurrence.
+#[derive(Drop)]
+pub(crate) struct Named {
+    /// Of all channels.
+    pub(crate) channels: IndexSet<Name>,
+    /// Of the variables of one process.
+    pub(crate) variables: IndexSet<Name>,
+}
+
+impl Named {
+    /// Notes the channel of a part, of which there may be 256.
+    fn limit_channels(&mut self, part: Part<'_>) -> Result<(), CheckStop>
+        ensures ok { OnOk result (tally.channels_over self.old.channels.keys (part_of part.entry) ≡ []) }
+        ensures noted { OnOk result (self.new.channels.keys ≡ tally.with_names self.old.channels.keys (spec.channels_in (part_of part.entry))) }
+        ensures others { self.new.variables ≡ self.old.variables }
+        ensures stop { IfErr result (IsFirst (map (TooMany what.Channels) (tally.channels_over self.old.channels.keys (part_of part.entry)))) }
+    {
+        let Some(channel) = channel_of(part) else {
+            return Ok(());
+        };
+        note(&mut self.channels, channel)?;
+        if self.channels.len() > MOST_CHANNELS {
+            return Err(too_many(What::Channels, place_of(part)));
+        }
+        Ok(())
+    }
+
+    /// Notes the variables of a part, of which its process may have 64.
+    fn limit_variables(&mut self, part: Part<'_>) -> Result<(), CheckStop>
+        ensures ok { OnOk result (tally.variables_over self.old.variables.keys (part_of part.entry) ≡ []) }
+        ensures noted { OnOk result (self.new.variables.keys ≡ tally.with_names self.old.variables.keys (spec.variables_in (part_of part.entry))) }
+        ensures others { self.new.channels ≡ self.old.channels }
+        ensures stop { IfErr result (IsFirst (map (TooMany what.Variables) (tally.variables_over self.old.variables.keys (part_of part.entry)))) }
+    {
+        note_variables(&mut self.variables, part)?;
+        if self.variables.len() > MOST_VARIABLES {
+            return Err(too_many(What::Variables, place_of(part)));
+        }
+        Ok(())
+    }
+
+    /// Notes the names of a part, unless it goes beyond a limit.
+    fn limit(&mut self, part: Part<'_>) -> Result<(), CheckStop>
+        ensures ok { OnOk result (tally.over_at self.old.channels.keys self.old.variables.keys (part_of part.entry) ≡ []) }
+        ensures channels { OnOk result (self.new.channels.keys ≡ tally.with_names self.old.channels.keys (spec.channels_in (part_of part.entry))) }
+        ensures variables { OnOk result (self.new.variables.keys ≡ tally.with_names self.old.variables.keys (spec.variables_in (part_of part.entry))) }
+        ensures stop { IfErr result (IsFirst (tally.over_at self.old.channels.keys self.old.variables.keys (part_of part.entry))) }
+    {
+        limit_guards(part)?;
+        self.limit_channels(part)?;
+        self.limit_variables(part)?;
+        limit_nodes(part)
+    }
+
+    /// Notes the names of the parts of a process, unless one goes beyond a limit.
+    pub(crate) fn limit_all(&mut self, parts: &[Part<'_>]) -> Result<(), CheckStop>
+        ensures ok { OnOk result (tally.over_along self.old.channels.keys self.old.variables.keys (seen parts.now) ≡ []) }
+        ensures channels { OnOk result (self.new.channels.keys ≡ tally.with_names self.old.channels.keys (flat_map spec.channels_in (seen parts.now))) }
+        ensures variables { OnOk result (self.new.variables.keys ≡ tally.with_names self.old.variables.keys (flat_map spec.variables_in (seen parts.now))) }
+        ensures stop { IfErr result (IsFirst (tally.over_along self.old.channels.keys self.old.variables.keys (seen parts.now))) }
+    {
+        for part in parts {
+            self.limit(*part)?;
+        }
+        Ok(())
+    }
+}

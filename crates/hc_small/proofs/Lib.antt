@@ -1,4 +1,0 @@
-pub mod AllOf
-pub mod Noted
-pub mod SmallTrees
-pub mod Plain

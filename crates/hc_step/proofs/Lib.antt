@@ -1,0 +1,12 @@
+pub mod Sees
+pub mod Level
+pub mod Defined
+pub mod Shown
+pub mod Moves
+pub mod Going
+pub mod Stretching
+pub mod Meetings
+pub mod Delays
+pub mod Moved
+pub mod Ruled
+pub mod Fresh

@@ -1,0 +1,23 @@
+use Rattle.std.proofs.Common.{◌≡◌, subst, Some, None, Ok}
+use Rattle.hc_term.specs.Silent.{silent}
+use Rattle.hc_step.specs.Looking.{Seen}
+use Rattle.hc_step.specs.Represents.{Sees}
+use Rattle.hc_step.proofs.Stretching.{spent_taken, spent_idle, spent_unfit}
+use Rattle.hc_step.proofs.local.Local.end_of_spent.Goals as goal
+
+pub returns-in-Ok-Some : goal.returns-in-Ok-Some
+returns-in-Ok-Some c t q all r =
+    let o = silent c.args.seed c.args.self.now.process c.args.clock q in
+    let e : c.look.result ≡ Ok (Some c.in-Ok-Some.field-0-0) = cc in
+    spent_taken t q o c.in-Ok-Some.field-0-0 (subst (λ (x : Seen). Sees t q o x) e (c.look.ensures.sees t q all r))
+
+pub returns-in-Ok-None : goal.returns-in-Ok-None
+returns-in-Ok-None c t q all r =
+    let o = silent c.args.seed c.args.self.now.process c.args.clock q in
+    let e : c.look.result ≡ Ok None = cc in
+    spent_idle t q o c.idle_end.result (subst (λ (x : Seen). Sees t q o x) e (c.look.ensures.sees t q all r)) (c.idle_end.ensures t c.args.clock q r)
+
+pub returns-in-Err : goal.returns-in-Err
+returns-in-Err c t q all r =
+    let o = silent c.args.seed c.args.self.now.process c.args.clock q in
+    spent_unfit t q o c.in-Err.field-0 (subst (λ (x : Seen). Sees t q o x) c.in-Err.is (c.look.ensures.sees t q all r))

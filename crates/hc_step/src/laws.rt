@@ -1,0 +1,8 @@
+//! Laws of codes.
+
+ghost use Rattle.hc_step.specs.Laws.{RuledCodesAreUsable};
+
+/// What holds of every code. There is nothing to run: the clause is the law.
+pub fn codes()
+    ensures usable { RuledCodesAreUsable }
+{}
