@@ -18,10 +18,11 @@ use Rattle.hc_modules.specs.Refusals.{IsExpansion}
 use Rattle.hc_modules.specs.Refusals as modules
 use Rattle.hc_finds.specs.declared.stop.CheckStop.{CheckStop}
 use Rattle.hc_finds.specs.declared.stop.CheckStop.TheVariants as check
+use Rattle.hc_check.specs.Accepted.{IsAccepted}
 use Rattle.hc_check.specs.Checked as checks
 use Rattle.hc_term.specs.declared.system.System.{System}
 use Rattle.hc_words.specs.declared.requests.Request.{Request}
-use Rattle.hc_words.specs.declared.requests.Request.TheVariants.{Print, Simulate}
+use Rattle.hc_words.specs.declared.requests.Request.TheVariants.{Check, Print, Simulate}
 use Rattle.hc_words.specs.declared.requests.Settings.{Settings}
 use Rattle.hc_words.specs.Requests.{Ask}
 use Rattle.hc_cmd.specs.declared.refusal.Refusal.{Refusal}
@@ -34,9 +35,9 @@ use Rattle.hc_parse.specs.declared.parsing.ParseStop.{ParseStop}
 use Rattle.hc_parse.specs.declared.parsing.ParseStop.TheVariants as stop
 use Rattle.hc_parse.specs.Stops.{IsStop}
 use Rattle.hc_cmd.specs.Refusals.{refused, status_of, status_of_stop, status_of_module_stop, status_of_check_stop}
-use Rattle.hc_cmd.specs.Replies.{spelled, sized, size_of, Accepts, Rejects, unexpanded, unchecked, Simulates, plain, not_plain, Answers, size, simulation, spelling, unparsed, rejected, status_at, Replies, usage, unread, no_memory, too_long, answered}
+use Rattle.hc_cmd.specs.Replies.{spelled, sized, size_of, Rejects, unexpanded, unchecked, Simulates, plain, not_plain, Answers, size, simulation, spelling, unparsed, rejected, status_at, Replies, usage, unread, no_memory, too_long, answered}
 use Rattle.hc_cmd.specs.Complete.{IsReplyTo, IsComplete}
-use Rattle.hc_cmd.specs.Prepared.{reply_to, simulation_reply, IsReady, IsSimulated, SimulatesTree}
+use Rattle.hc_cmd.specs.Prepared.{reply_to, simulation_reply, IsReady, IsSimulated, SimulatesTree, Accepts}
 use Rattle.hc_ast.specs.declared.tree.Tree.{Tree}
 use Rattle.hc_ast.specs.Source.{IsSource}
 
@@ -86,17 +87,27 @@ pub rejected_gives : (request : Request) (text : List ℕ) (tree : Tree) → req
 rejected_gives request text tree asked is f (inl e) = inl e
 rejected_gives request text tree asked is f (inr r) = inr (rejected asked tree is r)
 
+-- a text with an accepted tree is accepted
+abbrev pub accepted_text : (text : List ℕ) (tree : Tree) (flat : Flat) (system : System) → length text ≤ 1048576 → IsSource text tree → Accepts tree flat system → IsAccepted text system
+accepted_text text tree flat system fits is accepts =
+    record { tree = tree; flat = flat; short = fits; source = is; expanded = accepts.expanded; checked = accepts.checked }
+
+-- the size of a tree
+pub sizes : (request : Request) (text : List ℕ) (tree : Tree) (flat : Flat) (system : System) (reply : Reply) → request ≡ Check → length text ≤ 1048576 →
+    IsSource text tree → Accepts tree flat system → reply ≡ sized flat system → Answers request text reply
+sizes request text tree flat system reply asked fits is accepts e = size asked system (accepted_text text tree flat system fits is accepts) e
+
 -- the simulation of a tree
-pub simulates : (request : Request) (text : List ℕ) (tree : Tree) (settings : Settings) (reply : Reply) → request ≡ Simulate settings → IsSource text tree →
-    SimulatesTree tree settings reply → Answers request text reply
-simulates request text tree settings reply asked is s = simulation settings asked tree is s.0 s.1 s.2 s.3
+pub simulates : (request : Request) (text : List ℕ) (tree : Tree) (settings : Settings) (reply : Reply) → request ≡ Simulate settings → length text ≤ 1048576 →
+    IsSource text tree → SimulatesTree tree settings reply → Answers request text reply
+simulates request text tree settings reply asked fits is s = simulation settings asked s.1 (accepted_text text tree s.0 s.1 fits is s.2) s.3
 
 -- what the simulation of a tree gives, its text gives
-pub simulation_gives : (request : Request) (text : List ℕ) (tree : Tree) (settings : Settings) → request ≡ Simulate settings → IsSource text tree → (f : Refusal) →
+pub simulation_gives : (request : Request) (text : List ℕ) (tree : Tree) (settings : Settings) → request ≡ Simulate settings → length text ≤ 1048576 → IsSource text tree → (f : Refusal) →
     (refused f ≡ refused Memory) ⊎ (SimulatesTree tree settings (refused f) ⊎ Rejects tree (refused f)) → (refused f ≡ refused Memory) ⊎ Answers request text (refused f)
-simulation_gives request text tree settings asked is f (inl e) = inl e
-simulation_gives request text tree settings asked is f (inr (inl s)) = inr (simulates request text tree settings (refused f) asked is s)
-simulation_gives request text tree settings asked is f (inr (inr r)) = inr (rejected (λ e. cc (asked, e)) tree is r)
+simulation_gives request text tree settings asked fits is f (inl e) = inl e
+simulation_gives request text tree settings asked fits is f (inr (inl s)) = inr (simulates request text tree settings (refused f) asked fits is s)
+simulation_gives request text tree settings asked fits is f (inr (inr r)) = inr (rejected (λ e. cc (asked, e)) tree is r)
 
 -- what isn't accepted isn't simulated
 pub rejected_tree : (tree : Tree) (settings : Settings) (f : Refusal) → (refused f ≡ refused Memory) ⊎ Rejects tree (refused f) →
@@ -253,8 +264,8 @@ module _ {S : Type 0} (left : S → Option (List ℕ)) (faults : S → ℕ) (wor
   done_not_4 reply e h = let none : 0 ≡ 4 = sym e ∙ h in absurd (omega (arith, none))
 
   answer_not_4 : (request : Request) (text : List ℕ) (reply : Reply) → Answers request text reply → reply.status ≢ 4
-  answer_not_4 request text reply (size asked tree is flat system accepts e) h = done_not_4 reply (ap (λ (r : Reply). r.status) e) h
-  answer_not_4 request text reply (simulation settings asked tree is flat system accepts s) h = simulates_not_4 settings system reply s h
+  answer_not_4 request text reply (size asked system accepted e) h = done_not_4 reply (ap (λ (r : Reply). r.status) e) h
+  answer_not_4 request text reply (simulation settings asked system accepted s) h = simulates_not_4 settings system reply s h
   answer_not_4 request text reply (spelling asked tree is e) h = done_not_4 reply (ap (λ (r : Reply). r.status) e) h
   answer_not_4 request text reply (unparsed flaw place is e) h =
       let one : 1 ≡ 4 = sym (ap (λ (r : Reply). r.status) e) ∙ h in absurd (omega (arith, one))

@@ -7,9 +7,11 @@ use Rattle.hc_cmd.specs.declared.prepared.Prepared.{Prepared}
 use Rattle.hc_cmd.specs.declared.prepared.Prepared.TheVariants as is
 use Rattle.hc_ast.specs.declared.tree.Tree.{Tree}
 use Rattle.hc_modules.specs.declared.flat.Flat.{Flat}
+use Rattle.hc_modules.specs.Refusals.{IsExpansion}
+use Rattle.hc_check.specs.Checked.{IsChecked}
 use Rattle.hc_term.specs.declared.system.System.{System}
 use Rattle.hc_words.specs.declared.requests.Settings.{Settings}
-use Rattle.hc_cmd.specs.Replies.{simulated, Accepts, Simulates}
+use Rattle.hc_cmd.specs.Replies.{simulated, Simulates}
 
 -- what a simulation lets stand
 abbrev pub simulation_reply : Simulation → Reply
@@ -29,6 +31,11 @@ abbrev pub IsReady : Prepared → Type 0
 IsReady (is.Simulation s) = IsSimulated s
 IsReady (is.Size line) = Unit {0}
 IsReady (is.Spelling bytes) = Unit {0}
+
+-- these are the processes and the system of an accepted source
+pub record Accepts (tree : Tree) (flat : Flat) (system : System) : Type 0 where
+  pub expanded : IsExpansion tree flat
+  pub checked : IsChecked flat system
 
 -- a tree is accepted, and its system simulated so
 abbrev pub SimulatesTree : Tree → Settings → Reply → Type 0

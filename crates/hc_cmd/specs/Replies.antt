@@ -18,7 +18,7 @@ use Rattle.hc_modules.specs.declared.flat.ModuleStop.{ModuleStop}
 use Rattle.hc_modules.specs.Refusals.{IsExpansion}
 use Rattle.hc_modules.specs.Refusals as modules
 use Rattle.hc_finds.specs.declared.stop.CheckStop.{CheckStop}
-use Rattle.hc_check.specs.Checked.{IsChecked}
+use Rattle.hc_check.specs.Accepted.{IsAccepted}
 use Rattle.hc_check.specs.Checked as checks
 use Rattle.hc_words.specs.declared.requests.Request.{Request}
 use Rattle.hc_words.specs.declared.requests.Request.TheVariants.{Check, Print, Simulate}
@@ -43,11 +43,6 @@ abbrev pub simulated : Task → Reply
 simulated t =
     let run = canonical t in
     record { status = status_at run.stop; out = trace.whole t.system run.items run.end.clock run.stop; err = [] }
-
--- these are the processes and the system of an accepted source
-pub record Accepts (tree : Tree) (flat : Flat) (system : System) : Type 0 where
-  pub expanded : IsExpansion tree flat
-  pub checked : IsChecked flat system
 
 -- a system of plain statements is simulated; another isn't built
 pub data Simulates (settings : Settings) (system : System) (reply : Reply) : Type 0 where
@@ -75,11 +70,10 @@ pub data Rejects (tree : Tree) (reply : Reply) : Type 0 where
 
 -- what is asked for of a source
 pub data Answers (request : Request) (text : List ℕ) (reply : Reply) : Type 0 where
-  size : request ≡ Check → (tree : Tree) → IsSource text tree → (flat : Flat) (system : System) → Accepts tree flat system →
-      reply ≡ sized flat system → Answers request text reply
+  size : request ≡ Check → (system : System) → (accepted : IsAccepted text system) → reply ≡ sized accepted.flat system → Answers request text reply
   spelling : request ≡ Print → (tree : Tree) → IsSource text tree → reply ≡ spelled tree → Answers request text reply
-  simulation : (settings : Settings) → request ≡ Simulate settings → (tree : Tree) → IsSource text tree →
-      (flat : Flat) (system : System) → Accepts tree flat system → Simulates settings system reply → Answers request text reply
+  simulation : (settings : Settings) → request ≡ Simulate settings → (system : System) → IsAccepted text system →
+      Simulates settings system reply → Answers request text reply
   -- a text that is no source is refused where something is wrong first
   unparsed : (flaw : Flaw) (place : Place) → IsRefused text flaw place → reply ≡ refused_at flaw place → Answers request text reply
   -- printing asks for a source alone

@@ -4,7 +4,8 @@ ghost use Rattle.std.specs.Prelude.{◌≡◌, ◌⊎◌, MatchResult, length};
 ghost use Rattle.hc_modules.specs.declared.flat.Flat.{Flat as Expanded};
 ghost use Rattle.hc_modules.specs.Refusals.{HasText};
 ghost use Rattle.hc_cmd.specs.Refusals.{refused};
-ghost use Rattle.hc_cmd.specs.Replies.{Accepts, Rejects, size_of};
+ghost use Rattle.hc_cmd.specs.Prepared.{Accepts};
+ghost use Rattle.hc_cmd.specs.Replies.{Rejects, size_of};
 
 use crate::refusal::Refusal;
 use arrayvec::ArrayString;

@@ -3,8 +3,10 @@
 
 mod accepting;
 mod answering;
+mod laws;
 mod prepared;
 mod refusal;
 mod simulation;
 
 pub use answering::answer;
+pub use laws::accepted_texts;
