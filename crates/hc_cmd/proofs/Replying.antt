@@ -1,16 +1,13 @@
 -- From what a text gives to what the words and the source give, and from there to what stands.
-use Rattle.std.proofs.Common.{arith, ◌≡◌, ◌≢◌, ◌≤◌, ℕ, List, length, Option, Some, None, [], Result, MatchResult, Ok, Err, ◌⊎◌, inl, inr, refl, sym, ap, ◌∙◌}
+use Rattle.std.proofs.Common.{◌≡◌, ◌≢◌, ◌≤◌, ℕ, List, length, Option, Some, None, [], Result, MatchResult, Ok, Err, ◌⊎◌, inl, inr, refl, sym, ap, ◌∙◌}
 use Rattle.std.proofs.lemmas.List.{append-nil}
 use Rattle.hc_world.specs.Counts.{Rose}
 use Rattle.hc_world.specs.Reading.{IsAll}
 use Rattle.hc_world.specs.Written.{Written}
-use Rattle.hc_term.specs.declared.run.Stop.{Stop}
-use Rattle.hc_term.specs.declared.run.Stop.TheVariants.{Terminated, Deadlock, Horizon, Limit, Overflow}
 use Rattle.hc_reply.specs.Reply.{Reply}
 use Rattle.hc_reply.specs.Sinks.{Stands, IsWhole, AddsFlushed}
 use Rattle.hc_reply.proofs.StandsLemmas.{whole_without_fault}
 use Rattle.hc_print.specs.Canonical.{canonical as canonical_spelling}
-use Rattle.hc_term.specs.Canonical.{canonical}
 use Rattle.hc_modules.specs.declared.flat.Flat.{Flat}
 use Rattle.hc_modules.specs.declared.flat.ModuleStop.{ModuleStop}
 use Rattle.hc_modules.specs.declared.flat.ModuleStop.TheVariants as expanding
@@ -26,7 +23,7 @@ use Rattle.hc_words.specs.declared.requests.Request.TheVariants.{Check, Print, S
 use Rattle.hc_words.specs.declared.requests.Settings.{Settings}
 use Rattle.hc_words.specs.Requests.{Ask}
 use Rattle.hc_cmd.specs.declared.refusal.Refusal.{Refusal}
-use Rattle.hc_cmd.specs.declared.refusal.Refusal.TheVariants.{Usage, Unread, Memory, TooLong, NotBuilt, Unparsed, Unexpanded, Unchecked}
+use Rattle.hc_cmd.specs.declared.refusal.Refusal.TheVariants.{Memory, Unparsed, Unexpanded, Unchecked}
 use Rattle.hc_cmd.specs.declared.simulation.Simulation.{Simulation}
 use Rattle.hc_cmd.specs.declared.prepared.Prepared.{Prepared}
 use Rattle.hc_cmd.specs.declared.prepared.Prepared.TheVariants as is
@@ -34,8 +31,8 @@ use Rattle.hc_ast.specs.Counts.{name_too_long, number_unfit, syntax, too_deep, t
 use Rattle.hc_parse.specs.declared.parsing.ParseStop.{ParseStop}
 use Rattle.hc_parse.specs.declared.parsing.ParseStop.TheVariants as stop
 use Rattle.hc_parse.specs.Stops.{IsStop}
-use Rattle.hc_cmd.specs.Refusals.{refused, status_of, status_of_stop, status_of_module_stop, status_of_check_stop}
-use Rattle.hc_cmd.specs.Replies.{spelled, sized, size_of, Rejects, unexpanded, unchecked, Simulates, plain, not_plain, Answers, size, simulation, spelling, unparsed, rejected, status_at, Replies, usage, unread, no_memory, too_long, answered}
+use Rattle.hc_cmd.specs.Refusals.{refused}
+use Rattle.hc_cmd.specs.Replies.{spelled, sized, size_of, Rejects, unexpanded, unchecked, Simulates, Answers, size, simulation, unparsed, rejected, Replies, usage, unread, no_memory, too_long, answered}
 use Rattle.hc_cmd.specs.Complete.{IsReplyTo, IsComplete}
 use Rattle.hc_cmd.specs.Prepared.{reply_to, simulation_reply, IsReady, IsSimulated, SimulatesTree, Accepts}
 use Rattle.hc_ast.specs.declared.tree.Tree.{Tree}
@@ -129,52 +126,6 @@ pub sized_so : (flat : Flat) (system : System) (bytes : List ℕ) → bytes ≡ 
     (let reply : Reply = record { status = 0; out = bytes; err = [] } in reply) ≡ sized flat system
 sized_so flat system bytes e = ap (λ (out : List ℕ). (let reply : Reply = record { status = 0; out = out; err = [] } in reply)) e
 
-unparsed_not_2 : (s : ParseStop) → status_of_stop s ≢ 2
-unparsed_not_2 (stop.NameTooLong p) e = absurd (omega (arith, e))
-unparsed_not_2 (stop.NumberUnfit p) e = absurd (omega (arith, e))
-unparsed_not_2 (stop.Syntax p) e = absurd (omega (arith, e))
-unparsed_not_2 (stop.TooDeep p) e = absurd (omega (arith, e))
-unparsed_not_2 (stop.TooManyNodes p) e = absurd (omega (arith, e))
-unparsed_not_2 stop.Memory e = absurd (omega (arith, e))
-
-unexpanded_not_2 : (s : ModuleStop) → status_of_module_stop s ≢ 2
-unexpanded_not_2 (expanding.RepeatedModule p) e = absurd (omega (arith, e))
-unexpanded_not_2 (expanding.RepeatedParameter p) e = absurd (omega (arith, e))
-unexpanded_not_2 (expanding.ParameterWritten p) e = absurd (omega (arith, e))
-unexpanded_not_2 (expanding.TooManyProcesses p) e = absurd (omega (arith, e))
-unexpanded_not_2 (expanding.RepeatedProcess p) e = absurd (omega (arith, e))
-unexpanded_not_2 (expanding.UnknownModule p) e = absurd (omega (arith, e))
-unexpanded_not_2 (expanding.WrongArgumentCount p) e = absurd (omega (arith, e))
-unexpanded_not_2 (expanding.WrongArgumentKind p) e = absurd (omega (arith, e))
-unexpanded_not_2 (expanding.TooManyStatements p) e = absurd (omega (arith, e))
-unexpanded_not_2 (expanding.TooManyNodes p) e = absurd (omega (arith, e))
-unexpanded_not_2 expanding.Memory e = absurd (omega (arith, e))
-
-unchecked_not_2 : (s : CheckStop) → status_of_check_stop s ≢ 2
-unchecked_not_2 (check.TooMany what p) e = absurd (omega (arith, e))
-unchecked_not_2 (check.DivisorNotLiteral p) e = absurd (omega (arith, e))
-unchecked_not_2 (check.ZeroDivisor p) e = absurd (omega (arith, e))
-unchecked_not_2 (check.RepeatedRate p) e = absurd (omega (arith, e))
-unchecked_not_2 (check.RateEvolves p) e = absurd (omega (arith, e))
-unchecked_not_2 (check.DomainForm p) e = absurd (omega (arith, e))
-unchecked_not_2 (check.NotAffine p) e = absurd (omega (arith, e))
-unchecked_not_2 (check.RepeatedGuard p) e = absurd (omega (arith, e))
-unchecked_not_2 (check.SelfChannel p) e = absurd (omega (arith, e))
-unchecked_not_2 (check.TwoSenders p) e = absurd (omega (arith, e))
-unchecked_not_2 (check.TwoReceivers p) e = absurd (omega (arith, e))
-unchecked_not_2 check.Memory e = absurd (omega (arith, e))
-
--- status 2 tells of the words alone
-pub usage_alone : (f : Refusal) → status_of f ≡ 2 → f ≡ Usage
-usage_alone Usage e = refl
-usage_alone Unread e = absurd (omega (arith, e))
-usage_alone Memory e = absurd (omega (arith, e))
-usage_alone TooLong e = absurd (omega (arith, e))
-usage_alone NotBuilt e = absurd (omega (arith, e))
-usage_alone (Unparsed s) e = absurd (unparsed_not_2 s e)
-usage_alone (Unexpanded s) e = absurd (unexpanded_not_2 s e)
-usage_alone (Unchecked s) e = absurd (unchecked_not_2 s e)
-
 -- bytes that are the canonical spelling are the reply
 pub spelled_so : (tree : Tree) (bytes : List ℕ) → bytes ≡ canonical_spelling tree →
     (let reply : Reply = record { status = 0; out = bytes; err = [] } in reply) ≡ spelled tree
@@ -195,101 +146,6 @@ module _ {S : Type 0} (left : S → Option (List ℕ)) (faults : S → ℕ) (wor
   text_gives request text asked all fits kept (Ok p) h = (h.0, answered request text asked all fits kept h.1)
   text_gives request text asked all fits kept (Err f) (inl e) = no_memory kept e
   text_gives request text asked all fits kept (Err f) (inr a) = answered request text asked all fits kept a
-
-  -- no reply has status 4
-  not_4_at : (stop : Stop) → status_at stop ≢ 4
-  not_4_at Terminated e = absurd (omega (arith, e))
-  not_4_at Deadlock e = absurd (omega (arith, e))
-  not_4_at Horizon e = absurd (omega (arith, e))
-  not_4_at Limit e = absurd (omega (arith, e))
-  not_4_at (Overflow p) e = absurd (omega (arith, e))
-
-  stop_not_4 : (s : ParseStop) → status_of_stop s ≢ 4
-  stop_not_4 (stop.NameTooLong p) e = absurd (omega (arith, e))
-  stop_not_4 (stop.NumberUnfit p) e = absurd (omega (arith, e))
-  stop_not_4 (stop.Syntax p) e = absurd (omega (arith, e))
-  stop_not_4 (stop.TooDeep p) e = absurd (omega (arith, e))
-  stop_not_4 (stop.TooManyNodes p) e = absurd (omega (arith, e))
-  stop_not_4 stop.Memory e = absurd (omega (arith, e))
-
-  module_stop_not_4 : (s : ModuleStop) → status_of_module_stop s ≢ 4
-  module_stop_not_4 (expanding.RepeatedModule p) e = absurd (omega (arith, e))
-  module_stop_not_4 (expanding.RepeatedParameter p) e = absurd (omega (arith, e))
-  module_stop_not_4 (expanding.ParameterWritten p) e = absurd (omega (arith, e))
-  module_stop_not_4 (expanding.TooManyProcesses p) e = absurd (omega (arith, e))
-  module_stop_not_4 (expanding.RepeatedProcess p) e = absurd (omega (arith, e))
-  module_stop_not_4 (expanding.UnknownModule p) e = absurd (omega (arith, e))
-  module_stop_not_4 (expanding.WrongArgumentCount p) e = absurd (omega (arith, e))
-  module_stop_not_4 (expanding.WrongArgumentKind p) e = absurd (omega (arith, e))
-  module_stop_not_4 (expanding.TooManyStatements p) e = absurd (omega (arith, e))
-  module_stop_not_4 (expanding.TooManyNodes p) e = absurd (omega (arith, e))
-  module_stop_not_4 expanding.Memory e = absurd (omega (arith, e))
-
-  check_stop_not_4 : (s : CheckStop) → status_of_check_stop s ≢ 4
-  check_stop_not_4 (check.TooMany what p) e = absurd (omega (arith, e))
-  check_stop_not_4 (check.DivisorNotLiteral p) e = absurd (omega (arith, e))
-  check_stop_not_4 (check.ZeroDivisor p) e = absurd (omega (arith, e))
-  check_stop_not_4 (check.RepeatedRate p) e = absurd (omega (arith, e))
-  check_stop_not_4 (check.RateEvolves p) e = absurd (omega (arith, e))
-  check_stop_not_4 (check.DomainForm p) e = absurd (omega (arith, e))
-  check_stop_not_4 (check.NotAffine p) e = absurd (omega (arith, e))
-  check_stop_not_4 (check.RepeatedGuard p) e = absurd (omega (arith, e))
-  check_stop_not_4 (check.SelfChannel p) e = absurd (omega (arith, e))
-  check_stop_not_4 (check.TwoSenders p) e = absurd (omega (arith, e))
-  check_stop_not_4 (check.TwoReceivers p) e = absurd (omega (arith, e))
-  check_stop_not_4 check.Memory e = absurd (omega (arith, e))
-
-  refused_not_4 : (f : Refusal) → status_of f ≢ 4
-  refused_not_4 Usage e = absurd (omega (arith, e))
-  refused_not_4 Unread e = absurd (omega (arith, e))
-  refused_not_4 Memory e = absurd (omega (arith, e))
-  refused_not_4 TooLong e = absurd (omega (arith, e))
-  refused_not_4 NotBuilt e = absurd (omega (arith, e))
-  refused_not_4 (Unparsed s) e = stop_not_4 s e
-  refused_not_4 (Unexpanded s) e = module_stop_not_4 s e
-  refused_not_4 (Unchecked s) e = check_stop_not_4 s e
-
-  refusal_not_4 : (f : Refusal) (reply : Reply) → reply ≡ refused f → reply.status ≢ 4
-  refusal_not_4 f reply e h = refused_not_4 f (sym (ap (λ (r : Reply). r.status) e) ∙ h)
-
-  simulates_not_4 : (settings : Settings) (system : System) (reply : Reply) → Simulates settings system reply → reply.status ≢ 4
-  simulates_not_4 settings system reply (plain task is parts e) h = not_4_at (canonical task).stop (sym (ap (λ (r : Reply). r.status) e) ∙ h)
-  simulates_not_4 settings system reply (not_plain is e) h = refusal_not_4 NotBuilt reply e h
-
-  rejects_not_4 : (tree : Tree) (reply : Reply) → Rejects tree reply → reply.status ≢ 4
-  rejects_not_4 tree reply (unexpanded s is e) h = refusal_not_4 (Unexpanded s) reply e h
-  rejects_not_4 tree reply (unchecked flat from s is e) h = refusal_not_4 (Unchecked s) reply e h
-
-  done_not_4 : (reply : Reply) → reply.status ≡ 0 → reply.status ≢ 4
-  done_not_4 reply e h = let none : 0 ≡ 4 = sym e ∙ h in absurd (omega (arith, none))
-
-  answer_not_4 : (request : Request) (text : List ℕ) (reply : Reply) → Answers request text reply → reply.status ≢ 4
-  answer_not_4 request text reply (size asked system accepted e) h = done_not_4 reply (ap (λ (r : Reply). r.status) e) h
-  answer_not_4 request text reply (simulation settings asked system accepted s) h = simulates_not_4 settings system reply s h
-  answer_not_4 request text reply (spelling asked tree is e) h = done_not_4 reply (ap (λ (r : Reply). r.status) e) h
-  answer_not_4 request text reply (unparsed flaw place is e) h =
-      let one : 1 ≡ 4 = sym (ap (λ (r : Reply). r.status) e) ∙ h in absurd (omega (arith, one))
-  answer_not_4 request text reply (rejected asked tree is r) h = rejects_not_4 tree reply r h
-
-  pub reply_not_4 : (reply : Reply) → Replies left faults words before after reply → reply.status ≢ 4
-  reply_not_4 reply (usage none same e) h = refused_not_4 Usage (sym (ap (λ (r : Reply). r.status) e) ∙ h)
-  reply_not_4 reply (unread request asked rose e) h = refused_not_4 Unread (sym (ap (λ (r : Reply). r.status) e) ∙ h)
-  reply_not_4 reply (no_memory kept e) h = refused_not_4 Memory (sym (ap (λ (r : Reply). r.status) e) ∙ h)
-  reply_not_4 reply (too_long request text asked all long kept e) h = refused_not_4 TooLong (sym (ap (λ (r : Reply). r.status) e) ∙ h)
-  reply_not_4 reply (answered request text asked all fits kept a) h = answer_not_4 request text reply a h
-
-  -- what is ready has no status 2
-  at_not_2 : (stop : Stop) → status_at stop ≢ 2
-  at_not_2 Terminated e = absurd (omega (arith, e))
-  at_not_2 Deadlock e = absurd (omega (arith, e))
-  at_not_2 Horizon e = absurd (omega (arith, e))
-  at_not_2 Limit e = absurd (omega (arith, e))
-  at_not_2 (Overflow p) e = absurd (omega (arith, e))
-
-  pub ready_not_2 : (p : Prepared) → (reply_to p).status ≢ 2
-  ready_not_2 (is.Simulation s) e = at_not_2 (canonical s.task).stop e
-  ready_not_2 (is.Size line) e = absurd (omega (arith, e))
-  ready_not_2 (is.Spelling bytes) e = absurd (omega (arith, e))
 
   -- a reply to the source, where the words ask so
   abbrev pub Replied : Reply → Type 0

@@ -79,10 +79,14 @@ pub data Answers (request : Request) (text : List ℕ) (reply : Reply) : Type 0 
   -- printing asks for a source alone
   rejected : request ≢ Print → (tree : Tree) → IsSource text tree → Rejects tree reply → Answers request text reply
 
+-- the words ask for nothing that there is
+abbrev pub AsksNothing : List (List ℕ) → Type 0
+AsksNothing words = (request : Request) → Ask words request → ⊥
+
 -- what the words and the source give, where no write and no flush fails;
 -- `left` and `faults` are the source's own: the bytes that it tells, and its count of faults
 pub data Replies {S : Type 0} (left : S → Option (List ℕ)) (faults : S → ℕ) (words : List (List ℕ)) (before after : S) (reply : Reply) : Type 0 where
-  usage : ((request : Request) → Ask words request → ⊥) → after ≡ before → reply ≡ refused Usage → Replies left faults words before after reply
+  usage : AsksNothing words → after ≡ before → reply ≡ refused Usage → Replies left faults words before after reply
   unread : (request : Request) → Ask words request → Rose (faults before) (faults after) → reply ≡ refused Unread → Replies left faults words before after reply
   no_memory : faults after ≡ faults before → reply ≡ refused Memory → Replies left faults words before after reply
   too_long : (request : Request) (text : List ℕ) → Ask words request → IsAll (left before) text → 1048576 < length text →

@@ -6,7 +6,7 @@ ghost use Rattle.hc_world.specs.Counts.{Rose};
 ghost use Rattle.hc_reply.specs.Reply.{Reply};
 ghost use Rattle.hc_reply.specs.Sinks.{Stands};
 ghost use Rattle.hc_words.specs.Order.{AreInOrder};
-ghost use Rattle.hc_cmd.specs.Replies.{Replies};
+ghost use Rattle.hc_cmd.specs.Replies.{AsksNothing, Replies};
 ghost use Rattle.hc_cmd.specs.Complete.{IsComplete};
 
 use crate::prepared::Prepared;
@@ -52,6 +52,8 @@ pub fn answer<S: Source, O: Sink, E: Sink>(
     ensures reply { (reply : Reply) × Replies S.left S.faults (map string_bytes words.now.items) source.old source.new reply
         × Stands O.told O.faults E.told E.faults out.old out.new err.old err.new reply result }
     ensures in_order { AreInOrder (map string_bytes words.now.items) → result ≡ 2 → ⊥ }
+    ensures usage { result ≡ 2 → AsksNothing (map string_bytes words.now.items) × (source.new ≡ source.old) }
+    ensures asks_nothing { AsksNothing (map string_bytes words.now.items) → (result ≡ 2) ⊎ (result ≡ 4) ⊎ (result ≡ 5) }
     ensures write_fault { result ≡ 4 → Rose (O.faults out.old) (O.faults out.new) ⊎ Rose (E.faults err.old) (E.faults err.new) }
     ensures complete { IsComplete S.left S.faults O.told O.faults E.told E.faults (map string_bytes words.now.items)
         source.old source.new out.old out.new err.old err.new result }

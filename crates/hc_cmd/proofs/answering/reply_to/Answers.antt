@@ -1,7 +1,8 @@
 use Rattle.std.proofs.Common.{sym, subst, ◌∙◌, List, ℕ}
 use Rattle.hc_reply.specs.Sinks.{IsWhole, whole}
 use Rattle.hc_cmd.specs.Prepared.{reply_to}
-use Rattle.hc_cmd.proofs.Replying.{untouched, no_error, usage_alone}
+use Rattle.hc_cmd.proofs.Replying.{untouched, no_error}
+use Rattle.hc_cmd.proofs.Statuses.{usage_alone}
 use Rattle.hc_cmd.proofs.answering.reply_to.Goals as goal
 
 pub returns-in-Ok-write-clause-reply : goal.returns-in-Ok-write-clause-reply

@@ -1,8 +1,7 @@
-use Rattle.std.proofs.Common.{◌≡◌, ◌∙◌, subst}
+use Rattle.std.proofs.Common.{subst}
 use Rattle.hc_ast.specs.declared.tree.Tree.{Tree}
 use Rattle.hc_modules.specs.declared.flat.Flat.{Flat}
 use Rattle.hc_modules.specs.Refusals.{IsExpansion}
-use Rattle.hc_term.specs.declared.system.System.{System}
 use Rattle.hc_check.specs.Checked.{IsChecked}
 use Rattle.hc_cmd.proofs.laws.accepted_texts.Goals as goal
 
