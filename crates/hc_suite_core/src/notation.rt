@@ -172,10 +172,10 @@ fn read_sign(alloc: Global, open: &mut Vec<Open>, sign: u8) -> Result<(), Fail> 
 }
 
 /// The statements that the signs stand for.
-pub(crate) fn read(alloc: Global, signs: &[u8]) -> Result<List<Stmt>, Fail> {
+pub(crate) fn read(alloc: Global, signs: &str) -> Result<List<Stmt>, Fail> {
     let mut open = Vec::new(alloc);
     open.push(opened(alloc, b'('))?;
-    for sign in signs {
+    for sign in signs.as_bytes() {
         read_sign(alloc, &mut open, *sign)?;
     }
     match open.pop() {
@@ -201,48 +201,44 @@ impl Dice {
     }
 }
 
-const LEAVES: &[u8] = b"sss0+++hhql!?w-";
+const LEAVES: [&str; 15] = [
+    "s", "s", "s", "0", "+", "+", "+", "h", "h", "q", "l", "!", "?", "w", "-",
+];
 
 /// Opens a statement with parts, and notes how it is closed.
-fn open_one(signs: &mut Vec<u8>, closing: &mut Vec<u8>, side: u64) -> Result<(), Fail> {
+fn open_one(signs: &mut String, closing: &mut Vec<&'static str>, side: u64) -> Result<(), Fail> {
     let (sign, close, parts) = match side {
-        0..=3 => (b'[', b']', 2),
-        4..=6 => (b'{', b'}', 2),
-        7 => (b':', b';', 2),
-        8 => (b'(', b')', 1),
-        9 => (b'{', b'}', 1),
-        _ => (b'<', b'>', 1),
+        0..=3 => ("[", "]", 2),
+        4..=6 => ("{", "}", 2),
+        7 => (":", ";", 2),
+        8 => ("(", ")", 1),
+        9 => ("{", "}", 1),
+        _ => ("<", ">", 1),
     };
-    signs.push(sign)?;
+    signs.push_str(sign)?;
     closing.push(close)?;
     if parts == 2 {
-        closing.push(b'|')?;
+        closing.push("|")?;
     }
     Ok(())
 }
 
 /// Signs of a process made by the dice, in so many throws.
-pub(crate) fn made(alloc: Global, dice: &mut Dice, throws: u32) -> Result<Vec<u8>, Fail> {
-    let mut signs = Vec::from_slice(alloc, b"s")?;
+pub(crate) fn made(alloc: Global, dice: &mut Dice, throws: u32) -> Result<String, Fail> {
+    let mut signs = String::from_str(alloc, "s")?;
     let mut closing = Vec::new(alloc);
     for _ in 0..throws {
         match dice.throw(8) {
             0..=2 => open_one(&mut signs, &mut closing, dice.throw(12))?,
             3..=5 => {
                 let leaf = dice.throw(15) as usize;
-                signs.push(LEAVES.get(leaf).copied().unwrap_or(b's'))?;
+                signs.push_str(LEAVES.get(leaf).copied().unwrap_or("s"))?;
             }
-            _ => {
-                if let Some(close) = closing.pop() {
-                    signs.push(close)?;
-                }
-            }
+            _ => signs.push_str(closing.pop().unwrap_or(""))?,
         }
     }
     for _ in 0..closing.len() {
-        if let Some(close) = closing.pop() {
-            signs.push(close)?;
-        }
+        signs.push_str(closing.pop().unwrap_or(""))?;
     }
     Ok(signs)
 }

@@ -325,6 +325,15 @@ impl<'a> Plain<'a> {
         }
     }
 
+    /// Whether there is a silent step, be it one whose values don't fit.
+    pub(crate) fn is_able(&self) -> bool {
+        match self.phase() {
+            Phase::Going => true,
+            Phase::Arrived => self.bound == Some(Frac::zero()),
+            Phase::Ended => false,
+        }
+    }
+
     fn offer(&self, io: &Io) -> Offer {
         match io {
             Io::Send { channel, value } => Offer::Send {

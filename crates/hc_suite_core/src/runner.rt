@@ -85,8 +85,15 @@ impl Runner {
         &self.local
     }
 
-    pub(crate) fn code(&self) -> &ProcCode {
-        &self.code
+    /// A copy of the local, made over one that has begun anew.
+    pub(crate) fn copied(&self, alloc: Global) -> Result<Local, Fail> {
+        let variables = self.local.store().len();
+        if variables > 64 {
+            return Err("there are too many variables".into());
+        }
+        let mut copy = Local::start(alloc, &self.code, 0, variables as u32)?;
+        self.local.copy_into(&mut copy);
+        Ok(copy)
     }
 
     pub(crate) fn stretch(&mut self, clock: Frac, seed: u64, most: u32) -> Stretch {

@@ -5,7 +5,7 @@ use crate::plain::{Plain, Turn};
 use crate::runner::Runner;
 use crate::terms::{alone, whole};
 use hc_frac::Frac;
-use hc_step::Stretch;
+use hc_step::{Local, Stretch};
 use hc_term::{Io, StretchEnd};
 use std::alloc::Global;
 use std::process::Abort;
@@ -22,7 +22,7 @@ fn stretches_end_as_they_must(rt: HostRuntime) -> Result<(), Fail> {
         ("[1|2]", 1, 100, 2, StretchEnd::Logged(whole(2))),
     ];
     for (signs, seed, most, steps, end) in rows {
-        let system = alone(rt.alloc(), read(rt.alloc(), signs.as_bytes())?)?;
+        let system = alone(rt.alloc(), read(rt.alloc(), signs)?)?;
         let mut runner = Runner::start(rt.alloc(), &system, 0)?;
         let got = runner.stretch(Frac::zero(), seed, most);
         assert_eq!(rt; got, Stretch { steps, end }, "{signs}");
@@ -41,7 +41,19 @@ fn expect_same(rt: &impl Abort, alloc: Global, runner: &Runner, plain: &Plain) -
     assert_eq!(rt; post.due, plain.due);
     assert_eq!(rt; post.offers.as_slice(), plain.offers(alloc)?.as_slice());
     assert!(rt; post.moving.as_slice().is_empty());
+    assert_eq!(rt; local.able(), plain.is_able());
     Ok(())
+}
+
+/// The copy of a local shows the same.
+fn expect_copied(rt: &impl Abort, local: &Local, copy: &Local) {
+    assert_eq!(rt; local.place(), copy.place());
+    assert_eq!(rt; local.store(), copy.store());
+    assert_eq!(rt; local.choices(), copy.choices());
+    let (post, other) = (local.post(), copy.post());
+    assert_eq!(rt; post.phase, other.phase);
+    assert_eq!(rt; (post.bound, post.due), (other.bound, other.due));
+    assert_eq!(rt; post.offers.as_slice(), other.offers.as_slice());
 }
 
 /// Time passes up to the bound in two parts. The answer is false where the clock would be past all fractions.
@@ -89,7 +101,7 @@ fn meet_both<'a>(
 fn expect_lockstep(
     rt: &impl Abort,
     alloc: Global,
-    signs: &[u8],
+    signs: &str,
     turn: &Turn,
     most: u32,
 ) -> Result<u32, Fail> {
@@ -105,7 +117,7 @@ fn expect_lockstep(
     for _ in 0..40 {
         let wanted = plain.stretch(&turn, most)?;
         let got = runner.stretch(turn.clock, turn.seed, most);
-        assert_eq!(rt; got, wanted);
+        assert_eq!(rt; got, wanted, "{signs}");
         expect_same(rt, alloc, &runner, &plain)?;
         total = total.saturating_add(got.steps);
         let goes_on = match got.end {
@@ -114,15 +126,16 @@ fn expect_lockstep(
             StretchEnd::Ended | StretchEnd::Unfit => false,
         };
         if !goes_on {
-            return Ok(total);
+            break;
         }
         expect_same(rt, alloc, &runner, &plain)?;
     }
+    expect_copied(rt, runner.local(), &runner.copied(alloc)?);
     Ok(total)
 }
 
 /// Each row by several seeds, process numbers and lengths of stretches.
-fn expect_row(rt: &impl Abort, alloc: Global, signs: &[u8]) -> Result<(), Fail> {
+fn expect_row(rt: &impl Abort, alloc: Global, signs: &str) -> Result<(), Fail> {
     let turns = [
         (0, 0, 1),
         (0, u64::MAX, 2),
@@ -144,11 +157,11 @@ fn expect_row(rt: &impl Abort, alloc: Global, signs: &[u8]) -> Result<(), Fail> 
 /// A part of a row, and how many times it stands there.
 type Part = (&'static str, u32);
 
-fn joined(alloc: Global, parts: &[Part]) -> Result<Vec<u8>, Fail> {
-    let mut signs = Vec::new(alloc);
+fn joined(alloc: Global, parts: &[Part]) -> Result<String, Fail> {
+    let mut signs = String::new(alloc);
     for (part, times) in parts {
         for _ in 0..*times {
-            signs.extend_from_slice(part.as_bytes())?;
+            signs.push_str(part)?;
         }
     }
     Ok(signs)
@@ -182,7 +195,7 @@ const ROWS: [&[Part]; 20] = [
 fn rows_run_as_defined(rt: HostRuntime) -> Result<(), Fail> {
     for parts in ROWS {
         let signs = joined(rt.alloc(), parts)?;
-        expect_row(&rt, rt.alloc(), signs.as_slice())?;
+        expect_row(&rt, rt.alloc(), signs.as_str())?;
     }
     let long = joined(rt.alloc(), &[("+[s|0]", 2500)])?;
     let turn = Turn {
@@ -190,7 +203,7 @@ fn rows_run_as_defined(rt: HostRuntime) -> Result<(), Fail> {
         clock: Frac::zero(),
         seed: 0x0f1e_2d3c_4b5a_6978,
     };
-    let steps = expect_lockstep(&rt, rt.alloc(), long.as_slice(), &turn, 20_000)?;
+    let steps = expect_lockstep(&rt, rt.alloc(), long.as_str(), &turn, 20_000)?;
     assert_eq!(rt; steps, 7500);
     Ok(())
 }
@@ -200,7 +213,7 @@ fn made_processes_run_as_defined(rt: HostRuntime) -> Result<(), Fail> {
     let mut dice = Dice { state: 2026 };
     for throws in 20..60 {
         let signs = made(rt.alloc(), &mut dice, throws)?;
-        expect_row(&rt, rt.alloc(), signs.as_slice())?;
+        expect_row(&rt, rt.alloc(), signs.as_str())?;
     }
     Ok(())
 }
