@@ -1,5 +1,5 @@
 -- A code without evolutions, seen from one place on.
-use Rattle.std.proofs.Common.{◌≡◌, refl, ap, ◌∙◌, ℕ, zero, suc, true, false, not, ◌&&◌, List, [], ◌∷◌, drop}
+use Rattle.std.proofs.Common.{◌≡◌, ap, ℕ, zero, suc, false, not, ◌&&◌, List, [], ◌∷◌, drop}
 use Rattle.std.specs.Prelude.{slice_get, Some}
 use Rattle.hc_code.specs.declared.code.Instr.{Instr}
 use Rattle.hc_step.specs.Usable.{is_still, evolves}

@@ -1,5 +1,4 @@
-use Rattle.std.proofs.Common.{◌≡◌, sym, ◌∙◌}
-use Rattle.hc_rational.specs.Words.{rank}
+use Rattle.std.proofs.Common.{sym, ◌∙◌}
 use Rattle.hc_rational.proofs.OrderLaws.{≤ℚ-from_<ℚ, ≤ℚ-from_≡}
 use Rattle.hc_rational.proofs.RankLaws.{rank_is}
 use Rattle.hc_suite_core.proofs.runner.is_at_most.Goals as goal

@@ -1,4 +1,4 @@
-use Rattle.std.proofs.Common.{[], IsTrue, ◌≡◌, true}
+use Rattle.std.proofs.Common.{[], IsTrue}
 use Rattle.hc_term.specs.EndMoment.{is_domain}
 use Rattle.hc_suite_core.proofs.values.truth_of.Goals as goal
 
