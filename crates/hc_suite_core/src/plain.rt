@@ -183,18 +183,9 @@ impl<'a> Plain<'a> {
         }
     }
 
-    /// The silent step of a going process with this head.
-    fn going(&self, head: &'a Stmt, turn: &Turn) -> Result<Option<Did<'a>>, Unfit> {
+    /// The silent step at a head with parts, of which one may be put in front.
+    fn entering(&self, head: &'a Stmt, turn: &Turn) -> Result<Option<Did<'a>>, Unfit> {
         let did = match head {
-            Stmt::Skip => replaced(&[]),
-            Stmt::Assign { variable, value } => Did {
-                sets: Some((*variable, self.worth(value)?)),
-                ..replaced(&[])
-            },
-            Stmt::Log { value } => Did {
-                logged: Some(self.worth(value)?),
-                ..replaced(&[])
-            },
             Stmt::If { test, yes, no } => {
                 match truth(test, self.store.as_slice()).ok_or(Unfit)? {
                     true => replaced(yes.as_slice()),
@@ -221,6 +212,23 @@ impl<'a> Plain<'a> {
                     false => replaced(&[]),
                 }
             }
+            _ => return Ok(None),
+        };
+        Ok(Some(did))
+    }
+
+    /// The silent step of a going process with this head.
+    fn going(&self, head: &'a Stmt, turn: &Turn) -> Result<Option<Did<'a>>, Unfit> {
+        let did = match head {
+            Stmt::Skip => replaced(&[]),
+            Stmt::Assign { variable, value } => Did {
+                sets: Some((*variable, self.worth(value)?)),
+                ..replaced(&[])
+            },
+            Stmt::Log { value } => Did {
+                logged: Some(self.worth(value)?),
+                ..replaced(&[])
+            },
             Stmt::Wait { time } => arrival(Some(self.bound_of(time, turn)?)),
             Stmt::Io(io) => {
                 self.sends(io)?;
@@ -232,7 +240,7 @@ impl<'a> Plain<'a> {
                 }
                 arrival(None)
             }
-            Stmt::Evolve { .. } => return Ok(None),
+            _ => return self.entering(head, turn),
         };
         Ok(Some(did))
     }
