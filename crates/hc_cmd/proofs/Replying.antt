@@ -22,6 +22,7 @@ use Rattle.hc_words.specs.declared.requests.Request.{Request}
 use Rattle.hc_words.specs.declared.requests.Request.TheVariants.{Check, Print, Simulate}
 use Rattle.hc_words.specs.declared.requests.Settings.{Settings}
 use Rattle.hc_words.specs.Requests.{Ask}
+use Rattle.hc_words.proofs.OneRequest.{one_request}
 use Rattle.hc_cmd.specs.declared.refusal.Refusal.{Refusal}
 use Rattle.hc_cmd.specs.declared.refusal.Refusal.TheVariants.{Memory, Unparsed, Unexpanded, Unchecked}
 use Rattle.hc_cmd.specs.declared.simulation.Simulation.{Simulation}
@@ -147,36 +148,33 @@ module _ {S : Type 0} (left : S → Option (List ℕ)) (faults : S → ℕ) (wor
   text_gives request text asked all fits kept (Err f) (inl e) = no_memory kept e
   text_gives request text asked all fits kept (Err f) (inr a) = answered request text asked all fits kept a
 
-  -- a reply to the source, where the words ask so
-  abbrev pub Replied : Reply → Type 0
-  Replied reply = (request : Request) × Ask words request × IsReplyTo request (left before) reply
-
   -- where the words ask and the source doesn't fail, the reply is that to the source, or there is want of memory
-  pub replied : (asked : Request) (reply : Reply) → Replies left faults words before after reply → Ask words asked →
-      (Rose (faults before) (faults after) → ⊥) → (reply.status ≡ 5) ⊎ Replied reply
-  replied asked reply (usage none same e) ask fine = absurd (none asked ask)
-  replied asked reply (unread other again rose e) ask fine = absurd (fine rose)
-  replied asked reply (no_memory kept e) ask fine = inl (ap (λ (r : Reply). r.status) e)
-  replied asked reply (too_long other text again all long kept e) ask fine =
-      inr (other, again, record { text = text; is_all = all; reply_is = inr (long, e) })
-  replied asked reply (answered other text again all fits kept a) ask fine =
-      inr (other, again, record { text = text; is_all = all; reply_is = inl (fits, a) })
+  pub replied : (request : Request) (reply : Reply) → Replies left faults words before after reply → Ask words request →
+      (Rose (faults before) (faults after) → ⊥) → (reply.status ≡ 5) ⊎ IsReplyTo request (left before) reply
+  replied request reply (usage none same e) asked fine = absurd (none request asked)
+  replied request reply (unread other again rose e) asked fine = absurd (fine rose)
+  replied request reply (no_memory kept e) asked fine = inl (ap (λ (r : Reply). r.status) e)
+  replied request reply (too_long other text again all long kept e) asked fine =
+      inr (record { text = text; is_all = all; reply_is = inr (long, e) })
+  replied request reply (answered other text again all fits kept a) asked fine =
+      let same : other ≡ request = one_request words other request again asked in
+      inr (record { text = text; is_all = all; reply_is = inl (fits, subst (λ (r : Request). Answers r text reply) same a) })
 
 module _ {S O E : Type 0} (left : S → Option (List ℕ)) (faults : S → ℕ) (out_told : O → Option Written) (out_faults : O → ℕ)
     (err_told : E → Option Written) (err_faults : E → ℕ) (words : List (List ℕ)) (source source' : S) (out out' : O) (err err' : E) (status : ℕ) where
-  finished : (reply : Reply) → (reply.status ≡ 5) ⊎ Replied left faults words source source' reply →
+  finished : (request : Request) (reply : Reply) → (reply.status ≡ 5) ⊎ IsReplyTo request (left source) reply →
       (status ≡ reply.status) × IsWhole out_told out_faults out out' reply.out × IsWhole err_told err_faults err err' reply.err →
-      (status ≡ 5) ⊎ ((request : Request) × Ask words request × (reply : Reply) × IsReplyTo request (left source) reply × (status ≡ reply.status) ×
+      (status ≡ 5) ⊎ ((reply : Reply) × IsReplyTo request (left source) reply × (status ≡ reply.status) ×
       IsWhole out_told out_faults out out' reply.out × IsWhole err_told err_faults err err' reply.err)
-  finished reply (inl e) h = inl (h.0 ∙ e)
-  finished reply (inr r) h = inr (r.0, r.1, reply, r.2, h.0, h.1, h.2)
+  finished request reply (inl e) h = inl (h.0 ∙ e)
+  finished request reply (inr r) h = inr (reply, r, h.0, h.1, h.2)
 
   -- completeness follows from the reply that stands
   pub complete : (reply : Reply) → Replies left faults words source source' reply →
       Stands out_told out_faults err_told err_faults out out' err err' reply status →
       IsComplete left faults out_told out_faults err_told err_faults words source source' out out' err err' status
-  complete reply replies stands asked ask fine out_fine err_fine =
-      finished reply (replied left faults words source source' asked reply replies ask fine) (whole_without_fault stands out_fine err_fine)
+  complete reply replies stands request asked fine out_fine err_fine =
+      finished request reply (replied left faults words source source' request reply replies asked fine) (whole_without_fault stands out_fine err_fine)
 
 nothing_added : (o : Option Written) → AddsFlushed o o []
 nothing_added None = tt

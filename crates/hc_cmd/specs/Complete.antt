@@ -22,7 +22,7 @@ pub record IsReplyTo (request : Request) (told : Option (List ℕ)) (reply : Rep
 abbrev pub IsComplete : {S O E : Type 0} → (S → Option (List ℕ)) → (S → ℕ) → (O → Option Written) → (O → ℕ) → (E → Option Written) → (E → ℕ) →
     List (List ℕ) → S → S → O → O → E → E → ℕ → Type 0
 IsComplete left faults out_told out_faults err_told err_faults words source source' out out' err err' status =
-    (asked : Request) → Ask words asked → (Rose (faults source) (faults source') → ⊥) → (Rose (out_faults out) (out_faults out') → ⊥) →
+    (request : Request) → Ask words request → (Rose (faults source) (faults source') → ⊥) → (Rose (out_faults out) (out_faults out') → ⊥) →
     (Rose (err_faults err) (err_faults err') → ⊥) →
-    (status ≡ 5) ⊎ ((request : Request) × Ask words request × (reply : Reply) × IsReplyTo request (left source) reply × (status ≡ reply.status) ×
+    (status ≡ 5) ⊎ ((reply : Reply) × IsReplyTo request (left source) reply × (status ≡ reply.status) ×
     IsWhole out_told out_faults out out' reply.out × IsWhole err_told err_faults err err' reply.err)
