@@ -10,3 +10,8 @@ pub mod Choices
 pub mod Passing
 pub mod Values
 pub mod InOrder
+pub mod Numerals
+pub mod OwnTexts
+pub mod DecimalTexts
+pub mod OneFraction
+pub mod OneRequest

@@ -3,3 +3,4 @@ pub mod Numbers
 pub mod Requests
 pub mod Seen
 pub mod Order
+pub mod Laws

@@ -1,0 +1,5 @@
+use Rattle.hc_words.proofs.OneRequest.{one_request}
+use Rattle.hc_words.proofs.laws.calls.Goals as goal
+
+pub returns : goal.returns
+returns c = record { one_request = one_request }
