@@ -21,17 +21,57 @@ fn words_in_order_are_done(rt: HostRuntime) -> Result<(), Fail> {
         (&["simulate", "--horizon", "1.5"], 0, shorter),
         (&["simulate", "--horizon=1.5"], 0, shorter),
         (&["simulate", "--horizon", "001.50"], 0, shorter),
-        (&["simulate", "--horizon", "0.000000000000000001"], 0, "hcsp-trace 1\n0 delay 1/1000000000000000000\nend horizon 1/1000000000000000000\n"),
+        (
+            &["simulate", "--horizon", "0.000000000000000001"],
+            0,
+            "hcsp-trace 1\n0 delay 1/1000000000000000000\nend horizon 1/1000000000000000000\n",
+        ),
         (&["simulate", "--horizon=9223372036854775807"], 0, ENDED),
         (&["simulate", "--horizon", "2"], 0, ENDED),
-        (&["simulate", "--limit", "1"], 12, "hcsp-trace 1\nend limit 0\n"),
-        (&["simulate", "--limit=2"], 12, "hcsp-trace 1\n0 delay 2\nend limit 2\n"),
+        (
+            &["simulate", "--limit", "1"],
+            12,
+            "hcsp-trace 1\nend limit 0\n",
+        ),
+        (
+            &["simulate", "--limit=2"],
+            12,
+            "hcsp-trace 1\n0 delay 2\nend limit 2\n",
+        ),
         (&["simulate", "--limit", "1000000"], 0, ENDED),
-        (&["simulate", "--limit", "5", "--seed=1", "--horizon", "1.5"], 0, shorter),
-        (&["simulate", "--horizon=3/2", "--limit=5", "--seed", "1"], 0, shorter),
-        (&["simulate", "--seed", "1", "--horizon", "3/2", "--limit", "5"], 0, shorter),
-        (&["simulate", "--limit", "1", "--horizon=1"], 12, "hcsp-trace 1\nend limit 0\n"),
-        (&["check"], 0, "accepted processes 1 channels 0 statements 1\n"),
+        (
+            &["simulate", "--limit", "5", "--seed=1", "--horizon", "1.5"],
+            0,
+            shorter,
+        ),
+        (
+            &["simulate", "--horizon=3/2", "--limit=5", "--seed", "1"],
+            0,
+            shorter,
+        ),
+        (
+            &[
+                "simulate",
+                "--seed",
+                "1",
+                "--horizon",
+                "3/2",
+                "--limit",
+                "5",
+            ],
+            0,
+            shorter,
+        ),
+        (
+            &["simulate", "--limit", "1", "--horizon=1"],
+            12,
+            "hcsp-trace 1\nend limit 0\n",
+        ),
+        (
+            &["check"],
+            0,
+            "accepted processes 1 channels 0 statements 1\n",
+        ),
         (&["print"], 0, "system\nP = ( wait ( 2 ) ) endsystem\n"),
     ];
     for (words, status, out) in rows {
@@ -107,7 +147,14 @@ fn other_words_read_nothing(rt: HostRuntime) -> Result<(), Fail> {
         &["simulate", "--horizon", "0.0000000000000000001"],
     ];
     for words in rows {
-        expect_words(&rt, rt.alloc(), words, WAITING.as_bytes(), &unreadable, &wanted)?;
+        expect_words(
+            &rt,
+            rt.alloc(),
+            words,
+            WAITING.as_bytes(),
+            &unreadable,
+            &wanted,
+        )?;
     }
     Ok(())
 }

@@ -95,10 +95,7 @@ fn other_texts_are_refused(rt: HostRuntime) -> Result<(), Fail> {
             "system P = (<x_dot = 1, y_dot = 1 & x * y < 2>) endsystem",
             "hcsp: 1:39: not affine\n",
         ),
-        (
-            "system P = N(c) endsystem",
-            "hcsp: 1:12: unknown module\n",
-        ),
+        ("system P = N(c) endsystem", "hcsp: 1:12: unknown module\n"),
         ("system P = (", "hcsp: 1:13: syntax\n"),
         ("", "hcsp: 1:1: syntax\n"),
         ("system\n P = ()", "hcsp: 2:7: syntax\n"),
@@ -266,7 +263,8 @@ fn faults_of_reading_and_of_error_are_told(rt: HostRuntime) -> Result<(), Fail> 
 
 #[test]
 fn sources_are_checked(rt: HostRuntime) -> Result<(), Fail> {
-    let tank = "module Tank(ch sense, ch act, val h0):\nbegin\n  h := h0; v := 1;\n  (<h_dot = v & true> |> [](sense!h --> skip, act?v --> skip))**\nend\nendmodule\nmodule Control(ch sense, ch act, val period):\nbegin\n  (wait(period); sense?y; if y >= 7 then act!(-1) else act!1 endif)**\nend\nendmodule\nsystem\n  T = Tank(s, a, 5) || C = Control(s, a, 2)\nendsystem\n";
+    let tank =
+        "module Tank(ch sense, ch act, val h0):\nbegin\n  h := h0; v := 1;\n  (<h_dot = v & true> |> [](sense!h --> skip, act?v --> skip))**\nend\nendmodule\nmodule Control(ch sense, ch act, val period):\nbegin\n  (wait(period); sense?y; if y >= 7 then act!(-1) else act!1 endif)**\nend\nendmodule\nsystem\n  T = Tank(s, a, 5) || C = Control(s, a, 2)\nendsystem\n";
     let size = Wanted {
         status: 0,
         out: "accepted processes 2 channels 2 statements 12\n",
