@@ -1,0 +1,9 @@
+//! How expressions move in an evolution, and when its domain turns false.
+#![tactic(auto)]
+
+mod ending;
+mod gaps;
+mod lines;
+
+pub use ending::end_moment;
+pub use lines::{Linear, affine};
