@@ -4,3 +4,6 @@ pub mod OneComparison
 pub mod Forms
 pub mod Conjunctions
 pub mod Ended
+pub mod Along
+pub mod Soon
+pub mod Turning

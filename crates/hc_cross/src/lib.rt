@@ -3,7 +3,9 @@
 
 mod ending;
 mod gaps;
+mod laws;
 mod lines;
 
 pub use ending::end_moment;
+pub use laws::end_moments;
 pub use lines::{Linear, affine};
