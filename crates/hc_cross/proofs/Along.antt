@@ -1,12 +1,12 @@
 -- An affine expression moves along its line.
-use Rattle.std.proofs.Common.{rules, ◌≡◌, ◌≢◌, refl, sym, ap, ap₂, subst, ◌∙◌, ℕ, zero, suc, Bool, true, false, not, ◌&&◌, ◌||◌, List, [], ◌∷◌, length, slice_index_or, Option, Some, None, arith}
+use Rattle.std.proofs.Common.{rules, ◌≡◌, ◌≢◌, refl, sym, ap, ap₂, subst, ◌∙◌, ℕ, zero, suc, Bool, true, false, not, ◌&&◌, ◌||◌, [], ◌∷◌, length, slice_index_or, Option, Some, None, arith}
 use Rattle.std.specs.declared.cmp.Ordering.{Ordering}
 use Rattle.std.specs.declared.cmp.Ordering.TheVariants as side
 use denote.Hole.Carrier
 use Rattle.hc_rational.specs.Words.{Rational, zero_ℚ, ◌+ℚ◌, ◌-ℚ◌, ◌*ℚ◌, ◌/ℚ◌, neg_ℚ, rank, is_zero}
 use Rattle.hc_rational.proofs.Quotients.{own, zero-is, add-is, mul-is, neg-is, sub-is, same_quotients}
 use Rattle.hc_rational.proofs.FieldLaws.{+ℚ-zero, zero-*ℚ, *ℚ-zero, neg-zero, -ℚ-self, zero-/ℚ, /ℚ-*ℚ, *ℚ_cancel}
-use Rattle.hc_rational.proofs.RankLaws.{rank_is, is_zero_is}
+use Rattle.hc_rational.proofs.RankLaws.{is_zero_is}
 use Rattle.hc_term.specs.declared.expr.Op.{Op}
 use Rattle.hc_term.specs.declared.expr.Op.TheVariants.{Add, Sub, Mul, Div}
 use Rattle.hc_term.specs.declared.form.Form.{Form}
@@ -16,7 +16,7 @@ use Rattle.hc_term.specs.declared.expr.Expr.TheOpen.{Expr-F}
 use Rattle.hc_term.specs.declared.expr.Expr.TheFolds.{ind-Expr, map-Expr}
 use Rattle.hc_term.specs.declared.expr.Expr.TheVariants as plain
 use Rattle.hc_term.specs.declared.expr.Expr.TheViews as seen
-use Rattle.hc_term.specs.Value.{Store, val, val_layer, applied}
+use Rattle.hc_term.specs.Value.{Store, val, applied}
 use Rattle.hc_term.specs.Motion.{Rates, value_after, after, Line, line, line_layer, rate_of, product_slope, slope_by, evolves, allowed, form, form_layer}
 use Rattle.hc_cross.proofs.Signs.{on, is_on}
 
@@ -149,15 +149,15 @@ joined op t v w a b fa fb i j h =
     let sides = both_are fa.affine fb.affine parts.0 in
     ap₂ (applied op) (i.along sides.0) (j.along sides.1) ∙ lines op (i.still sides.0) (j.still sides.1) j.divides parts.1
   where
-  lines : (op : Op) → (fa.moves ≡ false → a.slope ≡ zero_ℚ) → (fb.moves ≡ false → b.slope ≡ zero_ℚ) → (fb.divides ≡ true → (b.at ≢ zero_ℚ) × (b.slope ≡ zero_ℚ)) →
-      allowed op fa fb ≡ true →
-      applied op (a.at +ℚ a.slope *ℚ t) (b.at +ℚ b.slope *ℚ t) ≡ applied op a.at b.at +ℚ slope_by op a.at a.slope b.at b.slope *ℚ t
-  lines Add si sj d k = add_lines a.at a.slope b.at b.slope t
-  lines Sub si sj d k = sub_lines a.at a.slope b.at b.slope t
-  lines Mul si sj d k = mul_by a.at a.slope b.at b.slope t fa.moves fb.moves (rank a.slope zero_ℚ) refl si sj k
-  lines Div si sj d k =
-      let still : b.at +ℚ b.slope *ℚ t ≡ b.at = ap (λ z. b.at +ℚ z *ℚ t) (d k).1 ∙ ap (λ z. b.at +ℚ z) (zero-*ℚ t) ∙ +ℚ-zero b.at in
-      ap (λ z. (a.at +ℚ a.slope *ℚ t) /ℚ z) still ∙ divided_line a.at a.slope b.at t (d k).0
+    lines : (op : Op) → (fa.moves ≡ false → a.slope ≡ zero_ℚ) → (fb.moves ≡ false → b.slope ≡ zero_ℚ) → (fb.divides ≡ true → (b.at ≢ zero_ℚ) × (b.slope ≡ zero_ℚ)) →
+        allowed op fa fb ≡ true →
+        applied op (a.at +ℚ a.slope *ℚ t) (b.at +ℚ b.slope *ℚ t) ≡ applied op a.at b.at +ℚ slope_by op a.at a.slope b.at b.slope *ℚ t
+    lines Add si sj d k = add_lines a.at a.slope b.at b.slope t
+    lines Sub si sj d k = sub_lines a.at a.slope b.at b.slope t
+    lines Mul si sj d k = mul_by a.at a.slope b.at b.slope t fa.moves fb.moves (rank a.slope zero_ℚ) refl si sj k
+    lines Div si sj d k =
+        let still : b.at +ℚ b.slope *ℚ t ≡ b.at = ap (λ z. b.at +ℚ z *ℚ t) (d k).1 ∙ ap (λ z. b.at +ℚ z) (zero-*ℚ t) ∙ +ℚ-zero b.at in
+        ap (λ z. (a.at +ℚ a.slope *ℚ t) /ℚ z) still ∙ divided_line a.at a.slope b.at t (d k).0
 
 still_product : (a m b n : Rational) (o : Ordering) → m ≡ zero_ℚ → n ≡ zero_ℚ → product_slope o a m b n ≡ zero_ℚ
 still_product a m b n side.Equal h k = ap (λ z. a *ℚ z) k ∙ *ℚ-zero a
@@ -172,12 +172,12 @@ stilled op t v w a b fa fb i j h none =
     let stays = neither fa.moves fb.moves none in
     slopes op (i.still sides.0 stays.0) (j.still sides.1 stays.1) j.divides parts.1
   where
-  slopes : (op : Op) → a.slope ≡ zero_ℚ → b.slope ≡ zero_ℚ → (fb.divides ≡ true → (b.at ≢ zero_ℚ) × (b.slope ≡ zero_ℚ)) → allowed op fa fb ≡ true →
-      slope_by op a.at a.slope b.at b.slope ≡ zero_ℚ
-  slopes Add p q d k = ap₂ (λ x y. x +ℚ y) p q ∙ +ℚ-zero zero_ℚ
-  slopes Sub p q d k = ap₂ (λ x y. x -ℚ y) p q ∙ -ℚ-self zero_ℚ
-  slopes Mul p q d k = still_product a.at a.slope b.at b.slope (rank a.slope zero_ℚ) p q
-  slopes Div p q d k = ap (λ z. z /ℚ b.at) p ∙ zero-/ℚ b.at (d k).0
+    slopes : (op : Op) → a.slope ≡ zero_ℚ → b.slope ≡ zero_ℚ → (fb.divides ≡ true → (b.at ≢ zero_ℚ) × (b.slope ≡ zero_ℚ)) → allowed op fa fb ≡ true →
+        slope_by op a.at a.slope b.at b.slope ≡ zero_ℚ
+    slopes Add p q d k = ap₂ (λ x y. x +ℚ y) p q ∙ +ℚ-zero zero_ℚ
+    slopes Sub p q d k = ap₂ (λ x y. x -ℚ y) p q ∙ -ℚ-self zero_ℚ
+    slopes Mul p q d k = still_product a.at a.slope b.at b.slope (rank a.slope zero_ℚ) p q
+    slopes Div p q d k = ap (λ z. z /ℚ b.at) p ∙ zero-/ℚ b.at (d k).0
 
 abbrev pub MovesAll : Store → Rates → Rational → Expr → Type 0
 MovesAll s r t e = Moves t (val (after s r t) e) (line s r e) (form r e)

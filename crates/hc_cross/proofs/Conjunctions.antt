@@ -1,26 +1,24 @@
 -- Conditions level by level, and conjunctions: which crossing is found, and that it is the least moment at which the conjunction fails.
-use Rattle.std.proofs.Common.{rules, ◌≡◌, ◌⊎◌, inl, inr, refl, sym, ap, ap₂, subst, ◌∙◌, Bool, true, false, not, ◌&&◌, ◌||◌, IsTrue, Option, Some, None, if◌then◌else◌}
-use Rattle.std.specs.Prelude.{MatchOption}
+use Rattle.std.proofs.Common.{◌≡◌, ◌⊎◌, inl, inr, refl, sym, ap, ap₂, subst, ◌∙◌, Bool, true, false, not, ◌&&◌, ◌||◌, IsTrue, Option, Some, None, if◌then◌else◌}
 use Rattle.std.specs.declared.cmp.Ordering.{Ordering}
 use Rattle.std.specs.declared.cmp.Ordering.TheVariants as side
 use denote.Hole.Carrier
-use Rattle.hc_rational.specs.Words.{Rational, zero_ℚ, ◌≤ℚ◌, ◌<ℚ◌, rank}
-use Rattle.hc_rational.proofs.OrderLaws.{≤ℚ_refl, ≤ℚ_antisymm, ≤ℚ_trans, ≤ℚ-from_<ℚ, ≤ℚ-from_≡}
+use Rattle.hc_rational.specs.Words.{Rational, zero_ℚ, ◌≤ℚ◌, rank}
+use Rattle.hc_rational.proofs.OrderLaws.{≤ℚ_refl, ≤ℚ_trans, ≤ℚ-from_<ℚ, ≤ℚ-from_≡}
 use Rattle.hc_rational.proofs.RankLaws.{rank_is}
 use Rattle.hc_term.specs.declared.expr.Expr.{Expr}
 use Rattle.hc_term.specs.declared.expr.Comparison.{Comparison}
-use Rattle.hc_term.specs.declared.expr.Cond.{Cond, roll-Cond, the_lemmas}
+use Rattle.hc_term.specs.declared.expr.Cond.{Cond, roll-Cond}
 use Rattle.hc_term.specs.declared.expr.Cond.TheOpen.{Cond-F}
 use Rattle.hc_term.specs.declared.expr.Cond.TheFolds.{ind-Cond, map-Cond}
 use Rattle.hc_term.specs.declared.expr.Cond.TheVariants as plain
 use Rattle.hc_term.specs.declared.expr.Cond.TheViews as seen
-use Rattle.hc_term.specs.Value.{Store, Sides, judge, answer}
+use Rattle.hc_term.specs.Value.{Store, judge}
 use Rattle.hc_term.specs.Motion.{Rates}
 use Rattle.hc_term.specs.EndMoment.{crossing, gap_of, sides_when, fails, earlier, earlier_by, kept, first_failing, end_moment}
 use Rattle.hc_term.specs.Profile.{is_conjunction}
-use Rattle.hc_cross.specs.Found.{end_of_one}
 use Rattle.hc_cross.proofs.Forms.{judge-True, judge-False, judge-Compare, judge-And, first-True, first-False, first-Compare, first-And, conjunction-Not, conjunction-And, conjunction-Or}
-use Rattle.hc_cross.proofs.OneComparison.{fails_at, failing, crossing-not_past, one_found}
+use Rattle.hc_cross.proofs.OneComparison.{fails_at, failing, crossing-not_past}
 
 -- ---- which moments fail
 
@@ -70,32 +68,44 @@ pub record IsBy (x : Option Rational) (t : Rational) : Type 0 where
   pub no_later : at ≤ℚ t
 
 earlier_at : (d e t : Rational) (o : Ordering) → rank d e ≡ o → (d ≤ℚ t) ⊎ (e ≤ℚ t) → IsBy (earlier_by o d e) t
-earlier_at d e t side.Less h k = record { at = d; is = refl; no_later = elim k [
-  | inl j ↦ j
-  | inr j ↦ ≤ℚ_trans d e t (≤ℚ-from_<ℚ d e ((rank_is d e).less.0 h)) j
-] }
-earlier_at d e t side.Equal h k = record { at = d; is = refl; no_later = elim k [
-  | inl j ↦ j
-  | inr j ↦ ≤ℚ_trans d e t (≤ℚ-from_≡ d e ((rank_is d e).equal.0 h)) j
-] }
-earlier_at d e t side.Greater h k = record { at = e; is = refl; no_later = elim k [
-  | inl j ↦ ≤ℚ_trans e d t (≤ℚ-from_<ℚ e d ((rank_is d e).greater.0 h)) j
-  | inr j ↦ j
-] }
+earlier_at d e t side.Less h k = record {
+  at = d;
+  is = refl;
+  no_later = elim k [
+    | inl j ↦ j
+    | inr j ↦ ≤ℚ_trans d e t (≤ℚ-from_<ℚ d e ((rank_is d e).less.0 h)) j
+  ];
+}
+earlier_at d e t side.Equal h k = record {
+  at = d;
+  is = refl;
+  no_later = elim k [
+    | inl j ↦ j
+    | inr j ↦ ≤ℚ_trans d e t (≤ℚ-from_≡ d e ((rank_is d e).equal.0 h)) j
+  ];
+}
+earlier_at d e t side.Greater h k = record {
+  at = e;
+  is = refl;
+  no_later = elim k [
+    | inl j ↦ ≤ℚ_trans e d t (≤ℚ-from_<ℚ e d ((rank_is d e).greater.0 h)) j
+    | inr j ↦ j
+  ];
+}
 
 first_by : (x y : Option Rational) (t d : Rational) → x ≡ Some d → d ≤ℚ t → IsBy (earlier x y) t
 first_by x y t d h k = subst (λ z. IsBy (earlier z y) t) (sym h) (by y)
   where
-  by : (y : Option Rational) → IsBy (earlier (Some d) y) t
-  by None = record { at = d; is = refl; no_later = k }
-  by (Some e) = earlier_at d e t (rank d e) refl (inl k)
+    by : (y : Option Rational) → IsBy (earlier (Some d) y) t
+    by None = record { at = d; is = refl; no_later = k }
+    by (Some e) = earlier_at d e t (rank d e) refl (inl k)
 
 second_by : (x y : Option Rational) (t e : Rational) → y ≡ Some e → e ≤ℚ t → IsBy (earlier x y) t
 second_by x y t e h k = subst (λ z. IsBy (earlier x z) t) (sym h) (by x)
   where
-  by : (x : Option Rational) → IsBy (earlier x (Some e)) t
-  by None = record { at = e; is = refl; no_later = k }
-  by (Some d) = earlier_at d e t (rank d e) refl (inr k)
+    by : (x : Option Rational) → IsBy (earlier x (Some e)) t
+    by None = record { at = e; is = refl; no_later = k }
+    by (Some d) = earlier_at d e t (rank d e) refl (inr k)
 
 -- what is found is one of the two
 earlier_one : (x y : Option Rational) (d : Rational) → earlier x y ≡ Some d → (x ≡ Some d) ⊎ (y ≡ Some d)
@@ -103,18 +113,18 @@ earlier_one None y d h = inr h
 earlier_one (Some e) None d h = inl h
 earlier_one (Some e) (Some f) d h = chosen (rank e f) h
   where
-  chosen : (o : Ordering) → earlier_by o e f ≡ Some d → (Some e ≡ Some d) ⊎ (Some f ≡ Some d)
-  chosen side.Less h = inl h
-  chosen side.Equal h = inl h
-  chosen side.Greater h = inr h
+    chosen : (o : Ordering) → earlier_by o e f ≡ Some d → (Some e ≡ Some d) ⊎ (Some f ≡ Some d)
+    chosen side.Less h = inl h
+    chosen side.Equal h = inl h
+    chosen side.Greater h = inr h
 
 kept_is : (f : Rational → Bool) (x : Option Rational) (d : Rational) → kept f x ≡ Some d → (x ≡ Some d) × (f d ≡ true)
 kept_is f None d h = absurd (cc h)
 kept_is f (Some t) d h = passed (f t) refl h
   where
-  passed : (b : Bool) → f t ≡ b → (if b then Some t else None) ≡ Some d → (Some t ≡ Some d) × (f d ≡ true)
-  passed true k h = (h, subst (λ z. f z ≡ true) (cc h) k)
-  passed false k h = absurd (cc h)
+    passed : (b : Bool) → f t ≡ b → (if b then Some t else None) ≡ Some d → (Some t ≡ Some d) × (f d ≡ true)
+    passed true k h = (h, subst (λ z. f z ≡ true) (cc h) k)
+    passed false k h = absurd (cc h)
 
 kept_by : (f : Rational → Bool) (x : Option Rational) (d : Rational) → x ≡ Some d → f d ≡ true → kept f x ≡ Some d
 kept_by f x d h k = ap (kept f) h ∙ ap (λ (b : Bool). if b then Some d else None) k
@@ -172,11 +182,11 @@ finds-And s r c a b e i j = record {
       let now = neither (fails s r a zero_ℚ) (fails s r b zero_ℚ) (sym (fails-And s r c a b zero_ℚ e) ∙ n) in
       subst (λ z. IsBy z t) (sym (first-And s r f c a b e)) (elim (one_of (fails s r a t) (fails s r b t) (sym (fails-And s r c a b t e) ∙ h)) [
         | inl m ↦
-          let found = i.least f t (λ x p. sup x (fails-And s r c a b x e ∙ either_first (fails s r a x) (fails s r b x) p)) k now.0 m in
-          first_by (first_failing s r f a) (first_failing s r f b) t found.at found.is found.no_later
+            let found = i.least f t (λ x p. sup x (fails-And s r c a b x e ∙ either_first (fails s r a x) (fails s r b x) p)) k now.0 m in
+            first_by (first_failing s r f a) (first_failing s r f b) t found.at found.is found.no_later
         | inr m ↦
-          let found = j.least f t (λ x p. sup x (fails-And s r c a b x e ∙ either_second (fails s r a x) (fails s r b x) p)) k now.1 m in
-          second_by (first_failing s r f a) (first_failing s r f b) t found.at found.is found.no_later
+            let found = j.least f t (λ x p. sup x (fails-And s r c a b x e ∙ either_second (fails s r a x) (fails s r b x) p)) k now.1 m in
+            second_by (first_failing s r f a) (first_failing s r f b) t found.at found.is found.no_later
       ]);
 }
 
@@ -221,7 +231,7 @@ or_false false h = refl
 
 found_later : (s : Store) (r : Rates) (c : Cond) → Finds s r c → fails s r c zero_ℚ ≡ false →
     (x : Option Rational) → first_failing s r (fails s r c) c ≡ x → Found s r c x
-found_later s r c i n None h = No_moment refl (λ t k. or_false (fails s r c t) (λ f. 
+found_later s r c i n None h = No_moment refl (λ t k. or_false (fails s r c t) (λ f.
     let found = i.least (fails s r c) t (λ e p. p) k n f in
     absurd (cc (sym h ∙ found.is))))
 found_later s r c i n (Some d) h =

@@ -1,5 +1,5 @@
 -- The end moment of a comparison, as it is told from signs, and of two conjunctions, which is the lesser of theirs.
-use Rattle.std.proofs.Common.{◌≡◌, ◌⊎◌, inl, inr, refl, sym, ap, ap₂, subst, ◌∙◌, Bool, true, false, ◌||◌, IsTrue, Option, Some, None, if◌then◌else◌}
+use Rattle.std.proofs.Common.{◌≡◌, inl, inr, refl, sym, ap, ap₂, subst, ◌∙◌, Bool, true, IsTrue, Option, Some, None, if◌then◌else◌}
 use Rattle.std.specs.declared.cmp.Ordering.{Ordering}
 use Rattle.std.specs.declared.cmp.Ordering.TheVariants as side
 use Rattle.hc_rational.specs.Words.{Rational, zero_ℚ, ◌≤ℚ◌, rank}
@@ -12,13 +12,13 @@ use Rattle.hc_term.specs.declared.expr.Cond.TheVariants as plain
 use Rattle.hc_term.specs.declared.expr.Cond.TheViews as seen
 use Rattle.hc_term.specs.Value.{Store}
 use Rattle.hc_term.specs.Motion.{Rates}
-use Rattle.hc_term.specs.EndMoment.{crossing, gap_of, fails, earlier, earlier_by, kept, first_failing, end_moment}
+use Rattle.hc_term.specs.EndMoment.{crossing, gap_of, fails, earlier, earlier_by, kept, end_moment}
 use Rattle.hc_term.specs.Profile.{is_conjunction}
 use Rattle.hc_cross.specs.declared.gaps.Gap.{Gap}
 use Rattle.hc_cross.specs.Found.{linear_of, gap_on, end_of_one}
 use Rattle.hc_cross.proofs.Forms.{first-Compare, conjunction-And}
 use Rattle.hc_cross.proofs.OneComparison.{fails_at, one_found}
-use Rattle.hc_cross.proofs.Conjunctions.{fails-Compare, fails-And, one_of, either_first, either_second, neither_of, both_are, IsLeast, Never, Found, Some_moment, No_moment, found}
+use Rattle.hc_cross.proofs.Conjunctions.{fails-Compare, fails-And, one_of, either_first, either_second, neither_of, both_are, IsLeast, Found, Some_moment, No_moment, found}
 
 -- ---- one comparison
 

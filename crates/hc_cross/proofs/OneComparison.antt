@@ -1,5 +1,5 @@
 -- When one comparison fails: where it doesn't fail now, it fails at no moment before its crossing, and if later at all, then there.
-use Rattle.std.proofs.Common.{◌≡◌, ◌⊎◌, inl, inr, refl, sym, ap, ap₂, subst, ◌∙◌, Bool, true, false, not, ◌&&◌, Option, Some, None, if◌then◌else◌}
+use Rattle.std.proofs.Common.{◌≡◌, inl, inr, refl, sym, ap, ap₂, subst, ◌∙◌, Bool, true, false, not, ◌&&◌, Option, Some, None, if◌then◌else◌}
 use Rattle.std.specs.declared.cmp.Ordering.{Ordering}
 use Rattle.std.specs.declared.cmp.Ordering.TheVariants as side
 use Rattle.hc_rational.specs.Words.{Rational, zero_ℚ, ◌/ℚ◌, neg_ℚ, ◌≤ℚ◌, ◌<ℚ◌, rank}
@@ -7,7 +7,7 @@ use Rattle.hc_rational.proofs.OrderLaws.{≤ℚ-from_<ℚ, ≤ℚ-from_≡}
 use Rattle.hc_rational.proofs.RankLaws.{rank_is}
 use Rattle.hc_term.specs.declared.expr.Comparison.{Comparison}
 use Rattle.hc_term.specs.Value.{answer}
-use Rattle.hc_term.specs.EndMoment.{opposite, or_else, side_at, side_after, crossing, kept}
+use Rattle.hc_term.specs.EndMoment.{opposite, or_else, side_at, crossing, kept}
 use Rattle.hc_cross.specs.Found.{end_later, end_of_one}
 use Rattle.hc_cross.proofs.Positions.{at_start, stays, before, beyond, crosses, crossing_later}
 
@@ -42,9 +42,9 @@ same_after how o b h =
 fails_twice : (p q : Bool) → not (q && q) ≡ true → not (p && q) ≡ true
 fails_twice true q h = cases q h
   where
-  cases : (q : Bool) → not (q && q) ≡ true → not q ≡ true
-  cases true h = h
-  cases false h = refl
+    cases : (q : Bool) → not (q && q) ≡ true → not q ≡ true
+    cases true h = h
+    cases false h = refl
 fails_twice false q h = refl
 
 -- a comparison that fails beyond its crossing fails at it
@@ -114,15 +114,15 @@ told : (how : Comparison) (u w : Rational) (b : Bool) → opposite (rank u zero_
     end_later (answer how side.Equal && answer how (rank w zero_ℚ)) (if b then Some (neg_ℚ u /ℚ w) else None)
 told how u w false o = none (answer how side.Equal && answer how (rank w zero_ℚ))
   where
-  none : (b : Bool) → None ≡ end_later b None
-  none true = refl
-  none false = refl
+    none : (b : Bool) → None ≡ end_later b None
+    none true = refl
+    none false = refl
 told how u w true o =
     ap (λ (b : Bool). if b then Some (neg_ℚ u /ℚ w) else None) (ap (λ z. fails_by how z (rank w zero_ℚ)) (crosses u w o)) ∙ turned (answer how side.Equal && answer how (rank w zero_ℚ))
   where
-  turned : (b : Bool) → (if not b then Some (neg_ℚ u /ℚ w) else None) ≡ end_later b (Some (neg_ℚ u /ℚ w))
-  turned true = refl
-  turned false = refl
+    turned : (b : Bool) → (if not b then Some (neg_ℚ u /ℚ w) else None) ≡ end_later b (Some (neg_ℚ u /ℚ w))
+    turned true = refl
+    turned false = refl
 
 swapped : (b : Bool) (x y : Option Rational) → (if not b then x else y) ≡ (if b then y else x)
 swapped true x y = refl

@@ -1,11 +1,11 @@
 -- Where a value that moves along a line lies to 0, by the signs of the value and the slope: before, at and after its crossing.
-use Rattle.std.proofs.Common.{◌≡◌, ◌≢◌, ◌⊎◌, inl, inr, refl, sym, ap, subst, ◌∙◌, true, false}
+use Rattle.std.proofs.Common.{◌≡◌, ◌≢◌, ◌⊎◌, inl, inr, refl, sym, ap, ◌∙◌, true, false}
 use Rattle.std.specs.declared.cmp.Ordering.{Ordering}
 use Rattle.std.specs.declared.cmp.Ordering.TheVariants as side
 use Rattle.hc_rational.specs.Words.{Rational, zero_ℚ, ◌+ℚ◌, ◌*ℚ◌, ◌/ℚ◌, neg_ℚ, ◌≤ℚ◌, ◌<ℚ◌, rank}
 use Rattle.hc_rational.proofs.FieldLaws.{zero-+ℚ, *ℚ-zero, +ℚ-zero, zero-*ℚ}
 use Rattle.hc_rational.proofs.OrderLaws.{≤ℚ-from_<ℚ, ≤ℚ-from_≡, ≤ℚ-or-<ℚ}
-use Rattle.hc_term.specs.EndMoment.{opposite, or_else, side_at, side_after}
+use Rattle.hc_term.specs.EndMoment.{opposite, or_else, side_at}
 use Rattle.hc_cross.proofs.Signs.{is_under, is_over, is_on, under, over, on, slope_apart, from_start, product_over, product_under, stays_under, stays_over, at_crossing, rising_before, rising_after, falling_before, falling_after}
 
 -- a value that doesn't go towards 0 lies as it does now, or as just after now
@@ -19,10 +19,10 @@ at_start u w = ap (λ z. rank z zero_ℚ) (ap (λ z. u +ℚ z) (*ℚ-zero w) ∙
 pub from_zero : (u w t : Rational) → zero_ℚ <ℚ t → u ≡ zero_ℚ → (b : Ordering) → rank w zero_ℚ ≡ b → side_at u w t ≡ b
 from_zero u w t k e b h = ap (λ z. rank (z +ℚ w *ℚ t) zero_ℚ) e ∙ ap (λ z. rank z zero_ℚ) (zero-+ℚ (w *ℚ t)) ∙ signed b h
   where
-  signed : (b : Ordering) → rank w zero_ℚ ≡ b → rank (w *ℚ t) zero_ℚ ≡ b
-  signed side.Less h = is_under (w *ℚ t) (product_under w t k (under w h))
-  signed side.Equal h = is_on (w *ℚ t) (ap (λ z. z *ℚ t) (on w h) ∙ zero-*ℚ t)
-  signed side.Greater h = is_over (w *ℚ t) (product_over w t k (over w h))
+    signed : (b : Ordering) → rank w zero_ℚ ≡ b → rank (w *ℚ t) zero_ℚ ≡ b
+    signed side.Less h = is_under (w *ℚ t) (product_under w t k (under w h))
+    signed side.Equal h = is_on (w *ℚ t) (ap (λ z. z *ℚ t) (on w h) ∙ zero-*ℚ t)
+    signed side.Greater h = is_over (w *ℚ t) (product_over w t k (over w h))
 
 stays_by : (u w t : Rational) → zero_ℚ ≤ℚ t → (a b : Ordering) → rank u zero_ℚ ≡ a → rank w zero_ℚ ≡ b → opposite a b ≡ false → Stays u w t a b
 stays_by u w t k side.Less side.Less h j n = inl (is_under (u +ℚ w *ℚ t) (stays_under u w t k (under u h) (≤ℚ-from_<ℚ w zero_ℚ (under w j))))
@@ -83,7 +83,7 @@ pub crossing_later : (u w : Rational) → opposite (rank u zero_ℚ) (rank w zer
 crossing_later u w o = elim (≤ℚ-or-<ℚ zero_ℚ (neg_ℚ u /ℚ w)) [
   | inl k ↦ k
   | inr l ↦
-    let same : rank u zero_ℚ ≡ rank w zero_ℚ = sym (at_start u w) ∙ beyond u w zero_ℚ o l in
-    let none : opposite (rank u zero_ℚ) (rank w zero_ℚ) ≡ false = ap (λ z. opposite z (rank w zero_ℚ)) same ∙ none_its_own (rank w zero_ℚ) in
-    absurd (cc (sym o ∙ none))
+      let same : rank u zero_ℚ ≡ rank w zero_ℚ = sym (at_start u w) ∙ beyond u w zero_ℚ o l in
+      let none : opposite (rank u zero_ℚ) (rank w zero_ℚ) ≡ false = ap (λ z. opposite z (rank w zero_ℚ)) same ∙ none_its_own (rank w zero_ℚ) in
+      absurd (cc (sym o ∙ none))
 ]

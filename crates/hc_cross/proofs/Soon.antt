@@ -50,9 +50,9 @@ soon_before p w m k o h =
 crossing_after : (p w : Rational) → opposite (rank p zero_ℚ) (rank w zero_ℚ) ≡ true → zero_ℚ <ℚ neg_ℚ p /ℚ w
 crossing_after p w o = elim (from_start (neg_ℚ p /ℚ w) (crossing_later p w o)) [
   | inl e ↦
-    let now : rank p zero_ℚ ≡ side.Equal = sym (at_start p w) ∙ sym (ap (side_at p w) e) ∙ crosses p w o in
-    let none : opposite (rank p zero_ℚ) (rank w zero_ℚ) ≡ false = ap (λ z. opposite z (rank w zero_ℚ)) now ∙ none_from_zero (rank w zero_ℚ) in
-    absurd (cc (sym o ∙ none))
+      let now : rank p zero_ℚ ≡ side.Equal = sym (at_start p w) ∙ sym (ap (side_at p w) e) ∙ crosses p w o in
+      let none : opposite (rank p zero_ℚ) (rank w zero_ℚ) ≡ false = ap (λ z. opposite z (rank w zero_ℚ)) now ∙ none_from_zero (rank w zero_ℚ) in
+      absurd (cc (sym o ∙ none))
   | inr l ↦ l
 ]
 
@@ -72,8 +72,8 @@ soon_by p w m k false o =
 soon_by p w m k true o = elim (≤ℚ-or-<ℚ m (neg_ℚ p /ℚ w)) [
   | inl l ↦ soon_before p w m k o (λ x a b. <ℚ-≤ℚ_trans x m (neg_ℚ p /ℚ w) b l)
   | inr l ↦
-    let near = soon_near p w o in
-    record { at = near.at; later = near.later; before = <ℚ_trans near.at (neg_ℚ p /ℚ w) m near.before l; lies = near.lies }
+      let near = soon_near p w o in
+      record { at = near.at; later = near.later; before = <ℚ_trans near.at (neg_ℚ p /ℚ w) m near.before l; lies = near.lies }
 ]
 
 -- ---- counted from another moment

@@ -1,5 +1,5 @@
 -- The end moment of a conjunction is the one at which it turns false.
-use Rattle.std.proofs.Common.{rules, ◌≡◌, ◌⊎◌, inl, inr, refl, sym, ap, ap₂, subst, ◌∙◌, Bool, true, false, not, ◌&&◌, ◌||◌, IsTrue, length, Option, Some, None}
+use Rattle.std.proofs.Common.{◌≡◌, ◌⊎◌, inl, inr, refl, sym, ap, ap₂, subst, ◌∙◌, Bool, true, false, not, ◌&&◌, IsTrue, length, Option}
 use Rattle.std.specs.Prelude.{MatchOption}
 use Rattle.std.specs.declared.cmp.Ordering.{Ordering}
 use Rattle.std.specs.declared.cmp.Ordering.TheVariants as side
@@ -10,33 +10,30 @@ use Rattle.hc_rational.proofs.FieldLaws.{+ℚ-neg, -ℚ-self, zero-+ℚ, +ℚ_co
 use Rattle.hc_rational.proofs.OrderLaws.{+ℚ-<ℚ, ≤ℚ-not_<ℚ, ≤ℚ_refl, ≤ℚ-or-<ℚ, ≤ℚ_antisymm, ≤ℚ_trans, zero-<ℚ-one}
 use Rattle.hc_rational.proofs.RankLaws.{rank_is}
 use Rattle.hc_term.specs.declared.expr.Expr.{Expr}
-use Rattle.hc_term.specs.declared.expr.Comparison.{Comparison}
 use Rattle.hc_term.specs.declared.expr.Cond.{Cond, roll-Cond}
 use Rattle.hc_term.specs.declared.expr.Cond.TheOpen.{Cond-F}
 use Rattle.hc_term.specs.declared.expr.Cond.TheFolds.{ind-Cond, map-Cond}
-use Rattle.hc_term.specs.declared.expr.Cond.TheVariants as plain
-use Rattle.hc_term.specs.declared.expr.Cond.TheViews as seen
-use Rattle.hc_term.specs.Value.{Store, judge, holds, sides_in, answer, val}
+use Rattle.hc_term.specs.Value.{Store, judge, holds, sides_in, answer}
 use Rattle.hc_term.specs.Motion.{Rates, after, line, form}
-use Rattle.hc_term.specs.EndMoment.{EndsAt, Endless, gap_of, sides_when, side_at, side_after, fails, end_moment, is_domain}
+use Rattle.hc_term.specs.EndMoment.{EndsAt, Endless, gap_of, sides_when, fails, end_moment, is_domain}
 use Rattle.hc_term.specs.Profile.{is_conjunction}
 use Rattle.hc_cross.proofs.Signs.{is_under, is_over, is_on}
 use Rattle.hc_cross.proofs.Along.{moves, sub_lines}
 use Rattle.hc_cross.proofs.Soon.{follows}
 use Rattle.hc_cross.proofs.Forms.{judge-True, judge-False, judge-Compare, judge-And, conjunction-Not, conjunction-And, conjunction-Or, domain-Compare, domain-And}
-use Rattle.hc_cross.proofs.Conjunctions.{both_are, IsLeast, Never, Found, Some_moment, No_moment, found}
+use Rattle.hc_cross.proofs.Conjunctions.{both_are, IsLeast, Found, Some_moment, No_moment, found}
 
 -- ---- a difference lies to 0 as its parts lie to each other
 
 rank-difference : (q r : Rational) → rank (q -ℚ r) zero_ℚ ≡ rank q r
 rank-difference q r = ranked (rank q r) refl
   where
-  ranked : (o : Ordering) → rank q r ≡ o → rank (q -ℚ r) zero_ℚ ≡ o
-  ranked side.Less h =
-      is_under (q -ℚ r) (subst (λ z. z <ℚ zero_ℚ) (sym (difference-is q r)) (subst (λ z. q +ℚ neg_ℚ r <ℚ z) (+ℚ-neg r) (+ℚ-<ℚ q r (neg_ℚ r) ((rank_is q r).less.0 h))))
-  ranked side.Equal h = is_on (q -ℚ r) (ap (λ z. z -ℚ r) ((rank_is q r).equal.0 h) ∙ -ℚ-self r)
-  ranked side.Greater h =
-      is_over (q -ℚ r) (subst (λ z. zero_ℚ <ℚ z) (sym (difference-is q r)) (subst (λ z. z <ℚ q +ℚ neg_ℚ r) (+ℚ-neg r) (+ℚ-<ℚ r q (neg_ℚ r) ((rank_is q r).greater.0 h))))
+    ranked : (o : Ordering) → rank q r ≡ o → rank (q -ℚ r) zero_ℚ ≡ o
+    ranked side.Less h =
+        is_under (q -ℚ r) (subst (λ z. z <ℚ zero_ℚ) (sym (difference-is q r)) (subst (λ z. q +ℚ neg_ℚ r <ℚ z) (+ℚ-neg r) (+ℚ-<ℚ q r (neg_ℚ r) ((rank_is q r).less.0 h))))
+    ranked side.Equal h = is_on (q -ℚ r) (ap (λ z. z -ℚ r) ((rank_is q r).equal.0 h) ∙ -ℚ-self r)
+    ranked side.Greater h =
+        is_over (q -ℚ r) (subst (λ z. zero_ℚ <ℚ z) (sym (difference-is q r)) (subst (λ z. z <ℚ q +ℚ neg_ℚ r) (+ℚ-neg r) (+ℚ-<ℚ r q (neg_ℚ r) ((rank_is q r).greater.0 h))))
 
 -- ---- at each moment the condition is as its gaps tell
 
@@ -112,21 +109,21 @@ false_step s r d e l (Cond-F.And a b) k h =
     let parts = both_are (is_conjunction a.0) (is_conjunction b.0) (sym (conjunction-And _ a.0 b.0 refl) ∙ k) in
     elim (first_false (judge (sides_when true s r d) a.0) (judge (sides_when true s r d) b.0) (sym (judge-And (sides_when true s r d) _ a.0 b.0 refl) ∙ h)) [
       | inl m ↦
-        let found = a.1 parts.0 m in
-        record {
-          at = found.at;
-          from = found.from;
-          until = found.until;
-          is = judge-And (sides_when false s r found.at) _ a.0 b.0 refl ∙ ap (λ z. z && judge (sides_when false s r found.at) b.0) found.is;
-        }
+          let found = a.1 parts.0 m in
+          record {
+            at = found.at;
+            from = found.from;
+            until = found.until;
+            is = judge-And (sides_when false s r found.at) _ a.0 b.0 refl ∙ ap (λ z. z && judge (sides_when false s r found.at) b.0) found.is;
+          }
       | inr m ↦
-        let found = b.1 parts.1 m in
-        record {
-          at = found.at;
-          from = found.from;
-          until = found.until;
-          is = judge-And (sides_when false s r found.at) _ a.0 b.0 refl ∙ false_second (judge (sides_when false s r found.at) a.0) (judge (sides_when false s r found.at) b.0) found.is;
-        }
+          let found = b.1 parts.1 m in
+          record {
+            at = found.at;
+            from = found.from;
+            until = found.until;
+            is = judge-And (sides_when false s r found.at) _ a.0 b.0 refl ∙ false_second (judge (sides_when false s r found.at) a.0) (judge (sides_when false s r found.at) b.0) found.is;
+          }
     ]
 false_step s r d e l (Cond-F.Or a b) k h = absurd (cc (sym k ∙ conjunction-Or _ a.0 b.0 refl))
 
@@ -142,9 +139,9 @@ holds_by false q h = cc
 fails_either : (p q : Bool) → not (p && q) ≡ true → (p ≡ false) ⊎ (q ≡ false)
 fails_either true q h = inr (turned q h)
   where
-  turned : (q : Bool) → not q ≡ true → q ≡ false
-  turned true h = cc
-  turned false h = refl
+    turned : (q : Bool) → not q ≡ true → q ≡ false
+    turned true h = cc
+    turned false h = refl
 fails_either false q h = inl refl
 
 holds_where : (s : Store) (r : Rates) (c : Cond) (t : Rational) → length r ≡ length s → is_domain r c ≡ true → is_conjunction c ≡ true → fails s r c t ≡ false →
@@ -166,8 +163,8 @@ ends_at s r c d p h k i = record {
   after = λ e l. elim (fails_either (judge (sides_when false s r d) c) (judge (sides_when true s r d) c) i.breaks) [
     | inl m ↦ (d, ≤ℚ_refl d, l, false_where s r c d p h k m)
     | inr m ↦
-      let next = false_soon s r d e l c k m in
-      (next.at, next.from, next.until, false_where s r c next.at p h k next.is)
+        let next = false_soon s r d e l c k m in
+        (next.at, next.from, next.until, false_where s r c next.at p h k next.is)
   ];
 }
 
@@ -186,8 +183,8 @@ not_before : (c : Cond) (s : Store) (r : Rates) (d e : Rational) → EndsAt c s 
 not_before c s r d e i j = elim (≤ℚ-or-<ℚ e d) [
   | inl k ↦ k
   | inr l ↦
-    let bad = i.after e l in
-    absurd (bad.3 (j.before bad.0 (≤ℚ_trans zero_ℚ d bad.0 i.not_past bad.1) bad.2))
+      let bad = i.after e l in
+      absurd (bad.3 (j.before bad.0 (≤ℚ_trans zero_ℚ d bad.0 i.not_past bad.1) bad.2))
 ]
 
 later : (d : Rational) → d <ℚ d +ℚ one_ℚ
@@ -197,6 +194,6 @@ pub one : (c : Cond) (s : Store) (r : Rates) (d : Rational) → EndsAt c s r d �
 one c s r d i = (
   λ e j. ≤ℚ_antisymm d e (not_before c s r e d j i) (not_before c s r d e i j),
   λ h.
-    let bad = i.after (d +ℚ one_ℚ) (later d) in
-    bad.3 (h bad.0 (≤ℚ_trans zero_ℚ d bad.0 i.not_past bad.1)),
+      let bad = i.after (d +ℚ one_ℚ) (later d) in
+      bad.3 (h bad.0 (≤ℚ_trans zero_ℚ d bad.0 i.not_past bad.1)),
 )

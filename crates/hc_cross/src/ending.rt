@@ -13,7 +13,11 @@ use std::cmp::Ordering;
 
 /// When a conjunction of comparisons of affine expressions turns false, or `None` where it never does. `Unfit` exactly
 /// where a working value of the domain doesn't fit a fraction.
-pub fn end_moment(domain: &Cond, store: &[Frac], rates: &[Option<Frac>]) -> Result<Option<Frac>, Unfit>
+pub fn end_moment(
+    domain: &Cond,
+    store: &[Frac],
+    rates: &[Option<Frac>],
+) -> Result<Option<Frac>, Unfit>
     requires in_range { reach_in domain.now ≤ length store.now }
     requires paired { length rates.now ≡ length store.now }
     requires domain { IsTrue (is_domain rates.now domain.now) }

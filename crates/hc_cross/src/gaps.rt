@@ -22,7 +22,12 @@ pub struct Gap {
 }
 
 /// The gap between two affine expressions, or `Unfit` exactly where one of its working values doesn't fit a fraction.
-pub fn gap_between(left: &Expr, right: &Expr, store: &[Frac], rates: &[Option<Frac>]) -> Result<Gap, Unfit>
+pub fn gap_between(
+    left: &Expr,
+    right: &Expr,
+    store: &[Frac],
+    rates: &[Option<Frac>],
+) -> Result<Gap, Unfit>
     requires left_in_range { reach left.now ≤ length store.now }
     requires right_in_range { reach right.now ≤ length store.now }
     requires paired { length rates.now ≡ length store.now }
@@ -50,7 +55,10 @@ fn difference(left: &Linear, right: &Linear) -> Result<Linear, Unfit>
 fn with_crossing(line: Linear) -> Result<Gap, Unfit>
     ensures { OkIff result (IsTrue (fits_if (crossing line.at line.slope))) (gap_on line) }
 {
-    if !are_opposite(line.at.compare(Frac::zero()), line.slope.compare(Frac::zero())) {
+    if !are_opposite(
+        line.at.compare(Frac::zero()),
+        line.slope.compare(Frac::zero()),
+    ) {
         return Ok(Gap {
             line,
             crossing: None,

@@ -1,4 +1,4 @@
-use Rattle.std.proofs.Common.{◌≡◌, sym, true, ◌∙◌}
+use Rattle.std.proofs.Common.{◌≡◌, true}
 use Rattle.hc_cross.proofs.Signs.{numerator_apart}
 use Rattle.hc_term.specs.EndMoment.{opposite}
 use Rattle.hc_rational.specs.Words.{rank, zero_ℚ}
