@@ -7,3 +7,4 @@ pub mod Ended
 pub mod Along
 pub mod Soon
 pub mod Turning
+pub mod Delays

@@ -7,5 +7,5 @@ mod laws;
 mod lines;
 
 pub use ending::end_moment;
-pub use laws::end_moments;
+pub use laws::{end_moments, moving_lines};
 pub use lines::{Linear, affine};
