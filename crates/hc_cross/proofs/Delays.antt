@@ -1,11 +1,11 @@
 -- After a delay that is at most the bound, the bound is the old one less the delay.
-use Rattle.std.proofs.Common.{◌≡◌, refl, sym, ap, ap₂, subst, ◌∙◌, IsTrue, List, [], ◌∷◌, length, Option, Some, None, arith}
+use Rattle.std.proofs.Common.{◌≡◌, refl, sym, ap, ap₂, subst, ◌∙◌, IsTrue, [], ◌∷◌, length, Option, Some, None, arith}
 use Rattle.std.specs.Prelude.{MatchOption}
 use Rattle.hc_rational.specs.Words.{Rational, zero_ℚ, ◌+ℚ◌, ◌-ℚ◌, ◌*ℚ◌, neg_ℚ, ◌≤ℚ◌, ◌<ℚ◌}
 use Rattle.hc_rational.specs.Rational.{difference-is}
-use Rattle.hc_rational.proofs.Quotients.{own, add-is, mul-is, sub-is, same_quotients}
+use Rattle.hc_rational.proofs.Quotients.{own, add-is, mul-is, same_quotients}
 use Rattle.hc_rational.proofs.FieldLaws.{+ℚ--ℚ, -ℚ-+ℚ, +ℚ_comm, zero-+ℚ}
-use Rattle.hc_rational.proofs.OrderLaws.{+ℚ-<ℚ, +ℚ-≤ℚ, ≤ℚ--ℚ, ≤ℚ_trans, ≤ℚ_refl}
+use Rattle.hc_rational.proofs.OrderLaws.{+ℚ-<ℚ, +ℚ-≤ℚ, ≤ℚ--ℚ, ≤ℚ_trans}
 use Rattle.hc_term.specs.declared.expr.Cond.{Cond}
 use Rattle.hc_term.specs.Value.{Store, holds}
 use Rattle.hc_term.specs.Motion.{Rates, value_after, after}
@@ -67,8 +67,7 @@ ends_from c s r d b k w i = record {
   not_past = (≤ℚ--ℚ d b).1 w;
   before = λ t j l. holds_from c s r d t (i.before (d +ℚ t) (not_past_sum d t k j) (less_sum b d t l));
   after = λ e l.
-      let bad = i.after (d +ℚ e) (more_sum b d e l) in
-      (
+      let bad = i.after (d +ℚ e) (more_sum b d e l) in (
         bad.0 -ℚ d,
         le_less b d bad.0 bad.1,
         less_less bad.0 d e bad.2,
