@@ -1,0 +1,10 @@
+pub mod Signs
+pub mod Positions
+pub mod OneComparison
+pub mod Forms
+pub mod Conjunctions
+pub mod Ended
+pub mod Along
+pub mod Soon
+pub mod Turning
+pub mod Delays

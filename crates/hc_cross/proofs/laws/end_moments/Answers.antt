@@ -1,0 +1,12 @@
+use Rattle.hc_cross.proofs.Turning.{right, one}
+use Rattle.hc_cross.proofs.Delays.{bound_after}
+use Rattle.hc_cross.proofs.laws.end_moments.Goals as goal
+
+pub returns-clause-right : goal.returns-clause-right
+returns-clause-right c = right
+
+pub returns-clause-one : goal.returns-clause-one
+returns-clause-one c = one
+
+pub returns-clause-delay : goal.returns-clause-delay
+returns-clause-delay c = bound_after

@@ -1,0 +1,11 @@
+//! How expressions move in an evolution, and when its domain turns false.
+#![tactic(auto)]
+
+mod ending;
+mod gaps;
+mod laws;
+mod lines;
+
+pub use ending::end_moment;
+pub use laws::{end_moments, moving_lines};
+pub use lines::{Linear, affine};
