@@ -1,4 +1,4 @@
--- After a delay that is at most the bound, the bound is the old one less the delay.
+-- After a delay that is at most the end moment, the end moment is the old one less the delay.
 use Rattle.std.proofs.Common.{◌≡◌, refl, sym, ap, ap₂, subst, ◌∙◌, IsTrue, [], ◌∷◌, length, Option, Some, None, arith}
 use Rattle.std.specs.Prelude.{MatchOption}
 use Rattle.hc_rational.specs.Words.{Rational, zero_ℚ, ◌+ℚ◌, ◌-ℚ◌, ◌*ℚ◌, neg_ℚ, ◌≤ℚ◌, ◌<ℚ◌}
@@ -9,10 +9,9 @@ use Rattle.hc_rational.proofs.OrderLaws.{+ℚ-<ℚ, +ℚ-≤ℚ, ≤ℚ--ℚ, �
 use Rattle.hc_term.specs.declared.expr.Cond.{Cond}
 use Rattle.hc_term.specs.Value.{Store, holds}
 use Rattle.hc_term.specs.Motion.{Rates, value_after, after}
-use Rattle.hc_term.specs.EndMoment.{EndsAt, Endless, end_moment, is_domain}
-use Rattle.hc_term.specs.Profile.{is_conjunction}
-use Rattle.hc_cross.specs.Laws.{IsWithin, less_by}
-use Rattle.hc_cross.proofs.Turning.{right, one}
+use Rattle.hc_term.specs.EndMoment.{EndsAt, Endless, end_moment}
+use Rattle.hc_cross.specs.Laws.{IsWithin, less_by, EndAfterDelay}
+use Rattle.hc_cross.proofs.EndsRight.{right, one}
 
 -- ---- two delays
 
@@ -78,7 +77,7 @@ ends_from c s r d b k w i = record {
 endless_from : (c : Cond) (s : Store) (r : Rates) (d : Rational) → zero_ℚ ≤ℚ d → Endless c s r → Endless c (after s r d) r
 endless_from c s r d k h = λ t j. holds_from c s r d t (h (d +ℚ t) (not_past_sum d t k j))
 
--- ---- the bound
+-- ---- the end moment
 
 ended : (c : Cond) (s : Store) (r : Rates) (x : Option Rational) (d : Rational) → MatchOption x (Endless c s r) (λ e. EndsAt c s r e) → EndsAt c s r d → x ≡ Some d
 ended c s r None d m i = absurd ((one c s r d i).1 m)
@@ -93,8 +92,7 @@ less_from : (c : Cond) (s : Store) (r : Rates) (d : Rational) (x y : Option Rati
 less_from c s r d None y k w m n = unended c (after s r d) r y n (endless_from c s r d k m)
 less_from c s r d (Some b) y k w m n = ended c (after s r d) r y (b -ℚ d) n (ends_from c s r d b k w m)
 
-pub bound_after : (c : Cond) (s : Store) (r : Rates) (d : Rational) → length r ≡ length s → IsTrue (is_domain r c) → IsTrue (is_conjunction c) →
-    zero_ℚ ≤ℚ d → IsWithin d (end_moment s r c) → end_moment (after s r d) r c ≡ less_by d (end_moment s r c)
-bound_after c s r d p h k j w =
-    less_from c s r d (end_moment s r c) (end_moment (after s r d) r c) j w (right c s r p h k)
-    (right c (after s r d) r (p ∙ sym (length-after s r d)) h k)
+pub end_after : EndAfterDelay
+end_after c s r d p h j w =
+    less_from c s r d (end_moment s r c) (end_moment (after s r d) r c) j w (right c s r p h)
+    (right c (after s r d) r (p ∙ sym (length-after s r d)) h)

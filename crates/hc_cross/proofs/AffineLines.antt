@@ -1,5 +1,6 @@
 -- An affine expression moves along its line.
 use Rattle.std.proofs.Common.{rules, ◌≡◌, ◌≢◌, refl, sym, ap, ap₂, subst, ◌∙◌, ℕ, zero, suc, Bool, true, false, not, ◌&&◌, ◌||◌, [], ◌∷◌, length, slice_index_or, Option, Some, None, arith}
+use Rattle.std.proofs.lemmas.Bool.{and_parts, or_parts}
 use Rattle.std.specs.declared.cmp.Ordering.{Ordering}
 use Rattle.std.specs.declared.cmp.Ordering.TheVariants as side
 use denote.Hole.Carrier
@@ -121,14 +122,6 @@ not_zero q h e =
     let none : not (is_zero q) ≡ false = ap not is in
     absurd (cc (sym h ∙ none))
 
-both_are : (p q : Bool) → (p && q) ≡ true → (p ≡ true) × (q ≡ true)
-both_are true q h = (refl, h)
-both_are false q h = cc
-
-neither : (p q : Bool) → (p || q) ≡ false → (p ≡ false) × (q ≡ false)
-neither true q h = cc
-neither false q h = (refl, h)
-
 not_both : (p q : Bool) → p ≡ true → not (p && q) ≡ true → q ≡ false
 not_both true true h k = cc
 not_both true false h k = refl
@@ -145,8 +138,8 @@ mul_by a m b n t false fb side.Greater h i j k = absurd (cc (sym h ∙ is_on m (
 joined : (op : Op) (t v w : Rational) (a b : Line) (fa fb : Form) → Moves t v a fa → Moves t w b fb → (fa.affine && fb.affine && allowed op fa fb) ≡ true →
     applied op v w ≡ applied op a.at b.at +ℚ slope_by op a.at a.slope b.at b.slope *ℚ t
 joined op t v w a b fa fb i j h =
-    let parts = both_are (fa.affine && fb.affine) (allowed op fa fb) h in
-    let sides = both_are fa.affine fb.affine parts.0 in
+    let parts = and_parts (fa.affine && fb.affine) (allowed op fa fb) h in
+    let sides = and_parts fa.affine fb.affine parts.0 in
     ap₂ (applied op) (i.along sides.0) (j.along sides.1) ∙ lines op (i.still sides.0) (j.still sides.1) j.divides parts.1
   where
     lines : (op : Op) → (fa.moves ≡ false → a.slope ≡ zero_ℚ) → (fb.moves ≡ false → b.slope ≡ zero_ℚ) → (fb.divides ≡ true → (b.at ≢ zero_ℚ) × (b.slope ≡ zero_ℚ)) →
@@ -167,9 +160,9 @@ still_product a m b n side.Greater h k = ap (λ z. z *ℚ b) h ∙ zero-*ℚ b
 stilled : (op : Op) (t v w : Rational) (a b : Line) (fa fb : Form) → Moves t v a fa → Moves t w b fb → (fa.affine && fb.affine && allowed op fa fb) ≡ true →
     (fa.moves || fb.moves) ≡ false → slope_by op a.at a.slope b.at b.slope ≡ zero_ℚ
 stilled op t v w a b fa fb i j h none =
-    let parts = both_are (fa.affine && fb.affine) (allowed op fa fb) h in
-    let sides = both_are fa.affine fb.affine parts.0 in
-    let stays = neither fa.moves fb.moves none in
+    let parts = and_parts (fa.affine && fb.affine) (allowed op fa fb) h in
+    let sides = and_parts fa.affine fb.affine parts.0 in
+    let stays = or_parts fa.moves fb.moves none in
     slopes op (i.still sides.0 stays.0) (j.still sides.1 stays.1) j.divides parts.1
   where
     slopes : (op : Op) → a.slope ≡ zero_ℚ → b.slope ≡ zero_ℚ → (fb.divides ≡ true → (b.at ≢ zero_ℚ) × (b.slope ≡ zero_ℚ)) → allowed op fa fb ≡ true →
