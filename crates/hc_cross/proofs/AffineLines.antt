@@ -41,22 +41,32 @@ at_variable (v ∷ s) (k ∷ r) t (suc x) h = at_variable s r t x (omega (arith,
 -- ---- lines joined
 
 add_lines : (a m b n t : Rational) → (a +ℚ m *ℚ t) +ℚ (b +ℚ n *ℚ t) ≡ (a +ℚ b) +ℚ (m +ℚ n) *ℚ t
-add_lines a m b n t = same_quotients (add-is (add-is (own a) (mul-is (own m) (own t))) (add-is (own b) (mul-is (own n) (own t))))
+add_lines a m b n t =
+    same_quotients
+    (add-is (add-is (own a) (mul-is (own m) (own t))) (add-is (own b) (mul-is (own n) (own t))))
     (add-is (add-is (own a) (own b)) (mul-is (add-is (own m) (own n)) (own t))) (omega arith)
 
 pub sub_lines : (a m b n t : Rational) → (a +ℚ m *ℚ t) -ℚ (b +ℚ n *ℚ t) ≡ (a -ℚ b) +ℚ (m -ℚ n) *ℚ t
-sub_lines a m b n t = same_quotients (sub-is (add-is (own a) (mul-is (own m) (own t))) (add-is (own b) (mul-is (own n) (own t))))
+sub_lines a m b n t =
+    same_quotients
+    (sub-is (add-is (own a) (mul-is (own m) (own t))) (add-is (own b) (mul-is (own n) (own t))))
     (add-is (sub-is (own a) (own b)) (mul-is (sub-is (own m) (own n)) (own t))) (omega arith)
 
 neg_line : (a m t : Rational) → neg_ℚ (a +ℚ m *ℚ t) ≡ neg_ℚ a +ℚ neg_ℚ m *ℚ t
-neg_line a m t = same_quotients (neg-is (add-is (own a) (mul-is (own m) (own t)))) (add-is (neg-is (own a)) (mul-is (neg-is (own m)) (own t))) (omega arith)
+neg_line a m t =
+    same_quotients (neg-is (add-is (own a) (mul-is (own m) (own t))))
+    (add-is (neg-is (own a)) (mul-is (neg-is (own m)) (own t))) (omega arith)
 
 still_first : (a b n t : Rational) → (a +ℚ zero_ℚ *ℚ t) *ℚ (b +ℚ n *ℚ t) ≡ a *ℚ b +ℚ (a *ℚ n) *ℚ t
-still_first a b n t = same_quotients (mul-is (add-is (own a) (mul-is zero-is (own t))) (add-is (own b) (mul-is (own n) (own t))))
+still_first a b n t =
+    same_quotients
+    (mul-is (add-is (own a) (mul-is zero-is (own t))) (add-is (own b) (mul-is (own n) (own t))))
     (add-is (mul-is (own a) (own b)) (mul-is (mul-is (own a) (own n)) (own t))) (omega arith)
 
 still_second : (a m b t : Rational) → (a +ℚ m *ℚ t) *ℚ (b +ℚ zero_ℚ *ℚ t) ≡ a *ℚ b +ℚ (m *ℚ b) *ℚ t
-still_second a m b t = same_quotients (mul-is (add-is (own a) (mul-is (own m) (own t))) (add-is (own b) (mul-is zero-is (own t))))
+still_second a m b t =
+    same_quotients
+    (mul-is (add-is (own a) (mul-is (own m) (own t))) (add-is (own b) (mul-is zero-is (own t))))
     (add-is (mul-is (own a) (own b)) (mul-is (mul-is (own m) (own b)) (own t))) (omega arith)
 
 spread : (p q b t : Rational) → (p +ℚ q *ℚ t) *ℚ b ≡ p *ℚ b +ℚ (q *ℚ b) *ℚ t
@@ -66,7 +76,8 @@ spread p q b t = same_quotients (mul-is (add-is (own p) (mul-is (own q) (own t))
 divided_line : (a m b t : Rational) → b ≢ zero_ℚ → (a +ℚ m *ℚ t) /ℚ b ≡ a /ℚ b +ℚ (m /ℚ b) *ℚ t
 divided_line a m b t n =
     *ℚ_cancel ((a +ℚ m *ℚ t) /ℚ b) (a /ℚ b +ℚ (m /ℚ b) *ℚ t) b n
-    (/ℚ-*ℚ (a +ℚ m *ℚ t) b n ∙ sym (spread (a /ℚ b) (m /ℚ b) b t ∙ ap₂ (λ x y. x +ℚ y *ℚ t) (/ℚ-*ℚ a b n) (/ℚ-*ℚ m b n)))
+    (/ℚ-*ℚ (a +ℚ m *ℚ t) b n
+    ∙ sym (spread (a /ℚ b) (m /ℚ b) b t ∙ ap₂ (λ x y. x +ℚ y *ℚ t) (/ℚ-*ℚ a b n) (/ℚ-*ℚ m b n)))
 
 -- ---- each form
 
@@ -78,31 +89,37 @@ line-Binary : (s : Store) (r : Rates) (e : Expr) (op : Op) (a b : Expr) → e �
     line s r e ≡ line_layer s r (Expr-F.Binary op (line s r a) (line s r b))
 line-Binary s r e op a b h = search (rules, expr.the_lemmas)
 
-val-Binary : (s : Store) (e : Expr) (op : Op) (a b : Expr) → e ≡ seen.Binary op a b → val s e ≡ applied op (val s a) (val s b)
+val-Binary : (s : Store) (e : Expr) (op : Op) (a b : Expr) → e ≡ seen.Binary op a b →
+    val s e ≡ applied op (val s a) (val s b)
 val-Binary s e op a b h = search (rules, expr.the_lemmas)
 
 form-Neg : (r : Rates) (e a : Expr) → e ≡ seen.Neg a → form r e ≡ form_layer r (Expr-F.Neg (form r a))
 form-Neg r e a h = search (rules, expr.the_lemmas)
 
-line-Neg : (s : Store) (r : Rates) (e a : Expr) → e ≡ seen.Neg a → line s r e ≡ line_layer s r (Expr-F.Neg (line s r a))
+line-Neg : (s : Store) (r : Rates) (e a : Expr) → e ≡ seen.Neg a →
+    line s r e ≡ line_layer s r (Expr-F.Neg (line s r a))
 line-Neg s r e a h = search (rules, expr.the_lemmas)
 
 val-Neg : (s : Store) (e a : Expr) → e ≡ seen.Neg a → val s e ≡ neg_ℚ (val s a)
 val-Neg s e a h = search (rules, expr.the_lemmas)
 
-form-Variable : (r : Rates) (e : Expr) (x : ℕ) → e ≡ plain.Variable x → form r e ≡ form_layer r (Expr-F.Variable x)
+form-Variable : (r : Rates) (e : Expr) (x : ℕ) → e ≡ plain.Variable x →
+    form r e ≡ form_layer r (Expr-F.Variable x)
 form-Variable r e x h = search (rules, expr.the_lemmas)
 
-line-Variable : (s : Store) (r : Rates) (e : Expr) (x : ℕ) → e ≡ plain.Variable x → line s r e ≡ line_layer s r (Expr-F.Variable x)
+line-Variable : (s : Store) (r : Rates) (e : Expr) (x : ℕ) → e ≡ plain.Variable x →
+    line s r e ≡ line_layer s r (Expr-F.Variable x)
 line-Variable s r e x h = search (rules, expr.the_lemmas)
 
 val-Variable : (s : Store) (e : Expr) (x : ℕ) → e ≡ plain.Variable x → val s e ≡ slice_index_or s x zero_ℚ
 val-Variable s e x h = search (rules, expr.the_lemmas)
 
-form-Number : (r : Rates) (e : Expr) (q : Rational) → e ≡ plain.Number q → form r e ≡ form_layer r (Expr-F.Number q)
+form-Number : (r : Rates) (e : Expr) (q : Rational) → e ≡ plain.Number q →
+    form r e ≡ form_layer r (Expr-F.Number q)
 form-Number r e q h = search (rules, expr.the_lemmas)
 
-line-Number : (s : Store) (r : Rates) (e : Expr) (q : Rational) → e ≡ plain.Number q → line s r e ≡ line_layer s r (Expr-F.Number q)
+line-Number : (s : Store) (r : Rates) (e : Expr) (q : Rational) → e ≡ plain.Number q →
+    line s r e ≡ line_layer s r (Expr-F.Number q)
 line-Number s r e q h = search (rules, expr.the_lemmas)
 
 val-Number : (s : Store) (e : Expr) (q : Rational) → e ≡ plain.Number q → val s e ≡ q
@@ -127,37 +144,49 @@ not_both true true h k = cc
 not_both true false h k = refl
 not_both false q h k = cc
 
-mul_by : (a m b n t : Rational) (fa fb : Bool) (o : Ordering) → rank m zero_ℚ ≡ o → (fa ≡ false → m ≡ zero_ℚ) → (fb ≡ false → n ≡ zero_ℚ) → not (fa && fb) ≡ true →
+mul_by : (a m b n t : Rational) (fa fb : Bool) (o : Ordering) → rank m zero_ℚ ≡ o →
+    (fa ≡ false → m ≡ zero_ℚ) → (fb ≡ false → n ≡ zero_ℚ) → not (fa && fb) ≡ true →
     (a +ℚ m *ℚ t) *ℚ (b +ℚ n *ℚ t) ≡ a *ℚ b +ℚ product_slope o a m b n *ℚ t
-mul_by a m b n t fa fb side.Equal h i j k = ap (λ z. (a +ℚ z *ℚ t) *ℚ (b +ℚ n *ℚ t)) (on m h) ∙ still_first a b n t
-mul_by a m b n t true fb side.Less h i j k = ap (λ z. (a +ℚ m *ℚ t) *ℚ (b +ℚ z *ℚ t)) (j (not_both true fb refl k)) ∙ still_second a m b t
-mul_by a m b n t true fb side.Greater h i j k = ap (λ z. (a +ℚ m *ℚ t) *ℚ (b +ℚ z *ℚ t)) (j (not_both true fb refl k)) ∙ still_second a m b t
+mul_by a m b n t fa fb side.Equal h i j k =
+    ap (λ z. (a +ℚ z *ℚ t) *ℚ (b +ℚ n *ℚ t)) (on m h) ∙ still_first a b n t
+mul_by a m b n t true fb side.Less h i j k =
+    ap (λ z. (a +ℚ m *ℚ t) *ℚ (b +ℚ z *ℚ t)) (j (not_both true fb refl k)) ∙ still_second a m b t
+mul_by a m b n t true fb side.Greater h i j k =
+    ap (λ z. (a +ℚ m *ℚ t) *ℚ (b +ℚ z *ℚ t)) (j (not_both true fb refl k)) ∙ still_second a m b t
 mul_by a m b n t false fb side.Less h i j k = absurd (cc (sym h ∙ is_on m (i refl)))
 mul_by a m b n t false fb side.Greater h i j k = absurd (cc (sym h ∙ is_on m (i refl)))
 
-joined : (op : Op) (t v w : Rational) (a b : Line) (fa fb : Form) → Moves t v a fa → Moves t w b fb → (fa.affine && fb.affine && allowed op fa fb) ≡ true →
+joined : (op : Op) (t v w : Rational) (a b : Line) (fa fb : Form) → Moves t v a fa → Moves t w b fb →
+    (fa.affine && fb.affine && allowed op fa fb) ≡ true →
     applied op v w ≡ applied op a.at b.at +ℚ slope_by op a.at a.slope b.at b.slope *ℚ t
 joined op t v w a b fa fb i j h =
     let parts = and_parts (fa.affine && fb.affine) (allowed op fa fb) h in
     let sides = and_parts fa.affine fb.affine parts.0 in
-    ap₂ (applied op) (i.along sides.0) (j.along sides.1) ∙ lines op (i.still sides.0) (j.still sides.1) j.divides parts.1
+    ap₂ (applied op) (i.along sides.0) (j.along sides.1)
+    ∙ lines op (i.still sides.0) (j.still sides.1) j.divides parts.1
   where
-    lines : (op : Op) → (fa.moves ≡ false → a.slope ≡ zero_ℚ) → (fb.moves ≡ false → b.slope ≡ zero_ℚ) → (fb.divides ≡ true → (b.at ≢ zero_ℚ) × (b.slope ≡ zero_ℚ)) →
+    lines : (op : Op) → (fa.moves ≡ false → a.slope ≡ zero_ℚ) → (fb.moves ≡ false → b.slope ≡ zero_ℚ) →
+        (fb.divides ≡ true → (b.at ≢ zero_ℚ) × (b.slope ≡ zero_ℚ)) →
         allowed op fa fb ≡ true →
-        applied op (a.at +ℚ a.slope *ℚ t) (b.at +ℚ b.slope *ℚ t) ≡ applied op a.at b.at +ℚ slope_by op a.at a.slope b.at b.slope *ℚ t
+        applied op (a.at +ℚ a.slope *ℚ t) (b.at +ℚ b.slope *ℚ t) ≡
+        applied op a.at b.at +ℚ slope_by op a.at a.slope b.at b.slope *ℚ t
     lines Add si sj d k = add_lines a.at a.slope b.at b.slope t
     lines Sub si sj d k = sub_lines a.at a.slope b.at b.slope t
-    lines Mul si sj d k = mul_by a.at a.slope b.at b.slope t fa.moves fb.moves (rank a.slope zero_ℚ) refl si sj k
+    lines Mul si sj d k =
+        mul_by a.at a.slope b.at b.slope t fa.moves fb.moves (rank a.slope zero_ℚ) refl si sj k
     lines Div si sj d k =
-        let still : b.at +ℚ b.slope *ℚ t ≡ b.at = ap (λ z. b.at +ℚ z *ℚ t) (d k).1 ∙ ap (λ z. b.at +ℚ z) (zero-*ℚ t) ∙ +ℚ-zero b.at in
+        let still : b.at +ℚ b.slope *ℚ t ≡ b.at =
+        ap (λ z. b.at +ℚ z *ℚ t) (d k).1 ∙ ap (λ z. b.at +ℚ z) (zero-*ℚ t) ∙ +ℚ-zero b.at in
         ap (λ z. (a.at +ℚ a.slope *ℚ t) /ℚ z) still ∙ divided_line a.at a.slope b.at t (d k).0
 
-still_product : (a m b n : Rational) (o : Ordering) → m ≡ zero_ℚ → n ≡ zero_ℚ → product_slope o a m b n ≡ zero_ℚ
+still_product : (a m b n : Rational) (o : Ordering) → m ≡ zero_ℚ → n ≡ zero_ℚ →
+    product_slope o a m b n ≡ zero_ℚ
 still_product a m b n side.Equal h k = ap (λ z. a *ℚ z) k ∙ *ℚ-zero a
 still_product a m b n side.Less h k = ap (λ z. z *ℚ b) h ∙ zero-*ℚ b
 still_product a m b n side.Greater h k = ap (λ z. z *ℚ b) h ∙ zero-*ℚ b
 
-stilled : (op : Op) (t v w : Rational) (a b : Line) (fa fb : Form) → Moves t v a fa → Moves t w b fb → (fa.affine && fb.affine && allowed op fa fb) ≡ true →
+stilled : (op : Op) (t v w : Rational) (a b : Line) (fa fb : Form) → Moves t v a fa → Moves t w b fb →
+    (fa.affine && fb.affine && allowed op fa fb) ≡ true →
     (fa.moves || fb.moves) ≡ false → slope_by op a.at a.slope b.at b.slope ≡ zero_ℚ
 stilled op t v w a b fa fb i j h none =
     let parts = and_parts (fa.affine && fb.affine) (allowed op fa fb) h in
@@ -165,72 +194,83 @@ stilled op t v w a b fa fb i j h none =
     let stays = or_parts fa.moves fb.moves none in
     slopes op (i.still sides.0 stays.0) (j.still sides.1 stays.1) j.divides parts.1
   where
-    slopes : (op : Op) → a.slope ≡ zero_ℚ → b.slope ≡ zero_ℚ → (fb.divides ≡ true → (b.at ≢ zero_ℚ) × (b.slope ≡ zero_ℚ)) → allowed op fa fb ≡ true →
+    slopes : (op : Op) → a.slope ≡ zero_ℚ → b.slope ≡ zero_ℚ →
+        (fb.divides ≡ true → (b.at ≢ zero_ℚ) × (b.slope ≡ zero_ℚ)) → allowed op fa fb ≡ true →
         slope_by op a.at a.slope b.at b.slope ≡ zero_ℚ
     slopes Add p q d k = ap₂ (λ x y. x +ℚ y) p q ∙ +ℚ-zero zero_ℚ
     slopes Sub p q d k = ap₂ (λ x y. x -ℚ y) p q ∙ -ℚ-self zero_ℚ
     slopes Mul p q d k = still_product a.at a.slope b.at b.slope (rank a.slope zero_ℚ) p q
     slopes Div p q d k = ap (λ z. z /ℚ b.at) p ∙ zero-/ℚ b.at (d k).0
 
-abbrev pub MovesAll : Store → Rates → Rational → Expr → Type 0
-MovesAll s r t e = Moves t (val (after s r t) e) (line s r e) (form r e)
+module _ (s : Store) (r : Rates) (t : Rational) where
+  abbrev there : Expr → Rational
+  there e = val (after s r t) e
 
-rebuilt : (t v v' : Rational) (l l' : Line) (f f' : Form) → v ≡ v' → l ≡ l' → f ≡ f' → Moves t v' l' f' → Moves t v l f
-rebuilt t v v' l l' f f' h i j m = subst (λ z. Moves t z l f) (sym h) (subst (λ z. Moves t v' z f) (sym i) (subst (λ z. Moves t v' l' z) (sym j) m))
+  abbrev MovesAll : Expr → Type 0
+  MovesAll e = Moves t (there e) (line s r e) (form r e)
 
-moves-Number : (s : Store) (r : Rates) (t : Rational) (e : Expr) (q : Rational) → e ≡ plain.Number q → MovesAll s r t e
-moves-Number s r t e q h =
-    rebuilt t _ q _ (line_layer s r (Expr-F.Number q)) _ (form_layer r (Expr-F.Number q)) (val-Number (after s r t) e q h) (line-Number s r e q h) (form-Number r e q h)
-    (record {
-      along = λ k. sym (ap (λ z. q +ℚ z) (zero-*ℚ t) ∙ +ℚ-zero q);
-      still = λ k n. refl;
-      divides = λ k. (not_zero q k, refl);
-    })
+  -- by what each form makes of its parts
+  rebuilt : (e : Expr) (v : Rational) (l : Line) (f : Form) → there e ≡ v → line s r e ≡ l → form r e ≡ f →
+      Moves t v l f → MovesAll e
+  rebuilt e v l f h i j m =
+      subst (λ z. Moves t z (line s r e) (form r e)) (sym h)
+      (subst (λ z. Moves t v z (form r e)) (sym i) (subst (λ z. Moves t v l z) (sym j) m))
 
-still_variable : (k : Option Rational) → evolves k ≡ false → rate_of k ≡ zero_ℚ
-still_variable None h = refl
-still_variable (Some k) h = cc
+  moves-Number : (e : Expr) (q : Rational) → e ≡ plain.Number q → MovesAll e
+  moves-Number e q h =
+      rebuilt e q (line_layer s r (Expr-F.Number q)) (form_layer r (Expr-F.Number q))
+      (val-Number (after s r t) e q h) (line-Number s r e q h) (form-Number r e q h)
+      (record {
+        along = λ k. sym (ap (λ z. q +ℚ z) (zero-*ℚ t) ∙ +ℚ-zero q);
+        still = λ k n. refl;
+        divides = λ k. (not_zero q k, refl);
+      })
 
-moves-Variable : (s : Store) (r : Rates) (t : Rational) (e : Expr) (x : ℕ) → length r ≡ length s → e ≡ plain.Variable x → MovesAll s r t e
-moves-Variable s r t e x p h =
-    rebuilt t _ (slice_index_or (after s r t) x zero_ℚ) _ (line_layer s r (Expr-F.Variable x)) _ (form_layer r (Expr-F.Variable x))
-    (val-Variable (after s r t) e x h) (line-Variable s r e x h) (form-Variable r e x h)
-    (record {
-      along = λ k. at_variable s r t x p;
-      still = λ k n. still_variable (slice_index_or r x None) n;
-      divides = λ k. absurd (cc k);
-    })
+  still_variable : (k : Option Rational) → evolves k ≡ false → rate_of k ≡ zero_ℚ
+  still_variable None h = refl
+  still_variable (Some k) h = cc
 
-moves-Neg : (s : Store) (r : Rates) (t : Rational) (e a : Expr) → e ≡ seen.Neg a → MovesAll s r t a → MovesAll s r t e
-moves-Neg s r t e a h i =
-    rebuilt t _ (neg_ℚ (val (after s r t) a)) _ (line_layer s r (Expr-F.Neg (line s r a))) _ (form_layer r (Expr-F.Neg (form r a)))
-    (val-Neg (after s r t) e a h) (line-Neg s r e a h) (form-Neg r e a h)
-    (record {
-      along = λ k. ap neg_ℚ (i.along k) ∙ neg_line (line s r a).at (line s r a).slope t;
-      still = λ k n. ap neg_ℚ (i.still k n) ∙ neg-zero;
-      divides = λ k. absurd (cc k);
-    })
+  moves-Variable : (e : Expr) (x : ℕ) → length r ≡ length s → e ≡ plain.Variable x → MovesAll e
+  moves-Variable e x p h =
+      rebuilt e (slice_index_or (after s r t) x zero_ℚ) (line_layer s r (Expr-F.Variable x))
+      (form_layer r (Expr-F.Variable x)) (val-Variable (after s r t) e x h) (line-Variable s r e x h)
+      (form-Variable r e x h)
+      (record {
+        along = λ k. at_variable s r t x p;
+        still = λ k n. still_variable (slice_index_or r x None) n;
+        divides = λ k. absurd (cc k);
+      })
 
-moves-Binary : (s : Store) (r : Rates) (t : Rational) (e : Expr) (op : Op) (a b : Expr) → e ≡ seen.Binary op a b → MovesAll s r t a → MovesAll s r t b → MovesAll s r t e
-moves-Binary s r t e op a b h i j =
-    rebuilt t _ (applied op (val (after s r t) a) (val (after s r t) b)) _ (line_layer s r (Expr-F.Binary op (line s r a) (line s r b))) _
-    (form_layer r (Expr-F.Binary op (form r a) (form r b))) (val-Binary (after s r t) e op a b h) (line-Binary s r e op a b h) (form-Binary r e op a b h)
-    (record {
-      along = λ k. joined op t (val (after s r t) a) (val (after s r t) b) (line s r a) (line s r b) (form r a) (form r b) i j k;
-      still = λ k n. stilled op t (val (after s r t) a) (val (after s r t) b) (line s r a) (line s r b) (form r a) (form r b) i j k n;
-      divides = λ k. absurd (cc k);
-    })
+  moves-Neg : (e a : Expr) → e ≡ seen.Neg a → MovesAll a → MovesAll e
+  moves-Neg e a h i =
+      rebuilt e (neg_ℚ (there a)) (line_layer s r (Expr-F.Neg (line s r a))) (form_layer r (Expr-F.Neg (form r a)))
+      (val-Neg (after s r t) e a h) (line-Neg s r e a h) (form-Neg r e a h)
+      (record {
+        along = λ k. ap neg_ℚ (i.along k) ∙ neg_line (line s r a).at (line s r a).slope t;
+        still = λ k n. ap neg_ℚ (i.still k n) ∙ neg-zero;
+        divides = λ k. absurd (cc k);
+      })
 
-abbrev ExprWith : Store → Rates → Rational → Type 0
-ExprWith s r t = (e : Expr) × MovesAll s r t e
+  moves-Binary : (e : Expr) (op : Op) (a b : Expr) → e ≡ seen.Binary op a b → MovesAll a → MovesAll b → MovesAll e
+  moves-Binary e op a b h i j =
+      rebuilt e (applied op (there a) (there b)) (line_layer s r (Expr-F.Binary op (line s r a) (line s r b)))
+      (form_layer r (Expr-F.Binary op (form r a) (form r b))) (val-Binary (after s r t) e op a b h)
+      (line-Binary s r e op a b h) (form-Binary r e op a b h)
+      (record {
+        along = λ k. joined op t (there a) (there b) (line s r a) (line s r b) (form r a) (form r b) i j k;
+        still = λ k n. stilled op t (there a) (there b) (line s r a) (line s r b) (form r a) (form r b) i j k n;
+        divides = λ k. absurd (cc k);
+      })
 
-moves_step : (s : Store) (r : Rates) (t : Rational) → length r ≡ length s → (y : Expr-F (ExprWith s r t)) →
-    MovesAll s r t (roll-Expr (map-Expr (ExprWith s r t) Expr (λ e. e.0) y))
-unfolding roll-Expr denote.Hole.Carrier.roll
-moves_step s r t p (Expr-F.Number q) = moves-Number s r t _ q refl
-moves_step s r t p (Expr-F.Variable x) = moves-Variable s r t _ x p refl
-moves_step s r t p (Expr-F.Neg a) = moves-Neg s r t _ a.0 refl a.1
-moves_step s r t p (Expr-F.Binary op a b) = moves-Binary s r t _ op a.0 b.0 refl a.1 b.1
+  abbrev ExprWith : Type 0
+  ExprWith = (e : Expr) × MovesAll e
 
-pub moves : (s : Store) (r : Rates) (t : Rational) → length r ≡ length s → (e : Expr) → MovesAll s r t e
-moves s r t p e = ind-Expr (MovesAll s r t) (λ x y is. subst (λ z. MovesAll s r t (roll-Expr z)) is (moves_step s r t p y)) e
+  step : length r ≡ length s → (y : Expr-F ExprWith) → MovesAll (roll-Expr (map-Expr ExprWith Expr (λ e. e.0) y))
+  unfolding roll-Expr denote.Hole.Carrier.roll
+  step p (Expr-F.Number q) = moves-Number _ q refl
+  step p (Expr-F.Variable x) = moves-Variable _ x p refl
+  step p (Expr-F.Neg a) = moves-Neg _ a.0 refl a.1
+  step p (Expr-F.Binary op a b) = moves-Binary _ op a.0 b.0 refl a.1 b.1
+
+  pub moves : length r ≡ length s → (e : Expr) → MovesAll e
+  moves p = ind-Expr MovesAll (λ x y is. subst (λ z. MovesAll (roll-Expr z)) is (step p y))

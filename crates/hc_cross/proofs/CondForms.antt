@@ -22,7 +22,8 @@ pub record IsConstant (c : Cond) : Type 0 where
 
 pub record IsComparison (c : Cond) (how : Comparison) (a b : Expr) : Type 0 where
   pub judged : (f : Sides) → judge f c ≡ answer how (f a b)
-  pub found : (s : Store) (r : Rates) (f : Rational → Bool) → first_failing s r f c ≡ kept f (crossing (gap_of s r a b).at (gap_of s r a b).slope)
+  pub found : (s : Store) (r : Rates) (f : Rational → Bool) →
+      first_failing s r f c ≡ kept f (crossing (gap_of s r a b).at (gap_of s r a b).slope)
   pub domain : (r : Rates) → is_domain r c ≡ ((form r a).affine && (form r b).affine)
 
 pub record IsNegated (c a : Cond) : Type 0 where
@@ -34,7 +35,8 @@ pub record IsNegated (c a : Cond) : Type 0 where
 pub record IsJoined (c a b : Cond) : Type 0 where
   pub op : Bool → Bool → Bool
   pub judged : (f : Sides) → judge f c ≡ op (judge f a) (judge f b)
-  pub found : (s : Store) (r : Rates) (f : Rational → Bool) → first_failing s r f c ≡ earlier (first_failing s r f a) (first_failing s r f b)
+  pub found : (s : Store) (r : Rates) (f : Rational → Bool) →
+      first_failing s r f c ≡ earlier (first_failing s r f a) (first_failing s r f b)
   pub domain : (r : Rates) → is_domain r c ≡ (is_domain r a && is_domain r b)
 
 -- ---- each form has it
@@ -45,7 +47,8 @@ judge-True f c e = search (rules, the_lemmas)
 judge-False : (f : Sides) (c : Cond) → c ≡ plain.False → judge f c ≡ false
 judge-False f c e = search (rules, the_lemmas)
 
-judge-Compare : (f : Sides) (c : Cond) (how : Comparison) (a b : Expr) → c ≡ plain.Compare how a b → judge f c ≡ answer how (f a b)
+judge-Compare : (f : Sides) (c : Cond) (how : Comparison) (a b : Expr) → c ≡ plain.Compare how a b →
+    judge f c ≡ answer how (f a b)
 judge-Compare f c how a b e = search (rules, the_lemmas)
 
 judge-Not : (f : Sides) (c a : Cond) → c ≡ seen.Not a → judge f c ≡ not (judge f a)
@@ -57,17 +60,21 @@ judge-And f c a b e = search (rules, the_lemmas)
 judge-Or : (f : Sides) (c a b : Cond) → c ≡ seen.Or a b → judge f c ≡ (judge f a || judge f b)
 judge-Or f c a b e = search (rules, the_lemmas)
 
-first-True : (s : Store) (r : Rates) (f : Rational → Bool) (c : Cond) → c ≡ plain.True → first_failing s r f c ≡ None
+first-True : (s : Store) (r : Rates) (f : Rational → Bool) (c : Cond) → c ≡ plain.True →
+    first_failing s r f c ≡ None
 first-True s r f c e = search (rules, the_lemmas)
 
-first-False : (s : Store) (r : Rates) (f : Rational → Bool) (c : Cond) → c ≡ plain.False → first_failing s r f c ≡ None
+first-False : (s : Store) (r : Rates) (f : Rational → Bool) (c : Cond) → c ≡ plain.False →
+    first_failing s r f c ≡ None
 first-False s r f c e = search (rules, the_lemmas)
 
-first-Compare : (s : Store) (r : Rates) (f : Rational → Bool) (c : Cond) (how : Comparison) (a b : Expr) → c ≡ plain.Compare how a b →
+first-Compare : (s : Store) (r : Rates) (f : Rational → Bool) (c : Cond) (how : Comparison) (a b : Expr) →
+    c ≡ plain.Compare how a b →
     first_failing s r f c ≡ kept f (crossing (gap_of s r a b).at (gap_of s r a b).slope)
 first-Compare s r f c how a b e = search (rules, the_lemmas)
 
-first-Not : (s : Store) (r : Rates) (f : Rational → Bool) (c a : Cond) → c ≡ seen.Not a → first_failing s r f c ≡ first_failing s r f a
+first-Not : (s : Store) (r : Rates) (f : Rational → Bool) (c a : Cond) → c ≡ seen.Not a →
+    first_failing s r f c ≡ first_failing s r f a
 first-Not s r f c a e = search (rules, the_lemmas)
 
 first-And : (s : Store) (r : Rates) (f : Rational → Bool) (c a b : Cond) → c ≡ seen.And a b →
@@ -91,16 +98,19 @@ domain-And r c a b e = search (rules, the_lemmas)
 domain-Or : (r : Rates) (c a b : Cond) → c ≡ seen.Or a b → is_domain r c ≡ (is_domain r a && is_domain r b)
 domain-Or r c a b e = search (rules, the_lemmas)
 
-pub fits-And : (s : Store) (r : Rates) (c a b : Cond) → c ≡ seen.And a b → domain_fits s r c ≡ (domain_fits s r a && domain_fits s r b)
+pub fits-And : (s : Store) (r : Rates) (c a b : Cond) → c ≡ seen.And a b →
+    domain_fits s r c ≡ (domain_fits s r a && domain_fits s r b)
 fits-And s r c a b e = search (rules, the_lemmas)
 
 pub is_true : (c : Cond) → c ≡ plain.True → IsConstant c
 is_true c e = record { value = true; judged = λ f. judge-True f c e; found = λ s r f. first-True s r f c e }
 
 pub is_false : (c : Cond) → c ≡ plain.False → IsConstant c
-is_false c e = record { value = false; judged = λ f. judge-False f c e; found = λ s r f. first-False s r f c e }
+is_false c e =
+    record { value = false; judged = λ f. judge-False f c e; found = λ s r f. first-False s r f c e }
 
-pub is_comparison : (c : Cond) (how : Comparison) (a b : Expr) → c ≡ plain.Compare how a b → IsComparison c how a b
+pub is_comparison : (c : Cond) (how : Comparison) (a b : Expr) → c ≡ plain.Compare how a b →
+    IsComparison c how a b
 is_comparison c how a b e = record {
   judged = λ f. judge-Compare f c how a b e;
   found = λ s r f. first-Compare s r f c how a b e;
@@ -108,7 +118,11 @@ is_comparison c how a b e = record {
 }
 
 is_negated : (c a : Cond) → c ≡ seen.Not a → IsNegated c a
-is_negated c a e = record { judged = λ f. judge-Not f c a e; found = λ s r f. first-Not s r f c a e; domain = λ r. domain-Not r c a e }
+is_negated c a e = record {
+  judged = λ f. judge-Not f c a e;
+  found = λ s r f. first-Not s r f c a e;
+  domain = λ r. domain-Not r c a e;
+}
 
 pub is_conjoined : (c a b : Cond) → c ≡ seen.And a b → IsJoined c a b
 is_conjoined c a b e = record {

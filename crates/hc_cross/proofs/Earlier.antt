@@ -16,9 +16,27 @@ pub record IsEarlier (x : Option Rational) (d e : Rational) : Type 0 where
   pub one : (at ≡ d) ⊎ (at ≡ e)
 
 earlier_by_is : (d e : Rational) (o : Ordering) → rank d e ≡ o → IsEarlier (earlier_by o d e) d e
-earlier_by_is d e side.Less h = record { at = d; is = refl; first = ≤ℚ_refl d; second = ≤ℚ-from_<ℚ d e ((rank_is d e).less.0 h); one = inl refl }
-earlier_by_is d e side.Equal h = record { at = d; is = refl; first = ≤ℚ_refl d; second = ≤ℚ-from_≡ d e ((rank_is d e).equal.0 h); one = inl refl }
-earlier_by_is d e side.Greater h = record { at = e; is = refl; first = ≤ℚ-from_<ℚ e d ((rank_is d e).greater.0 h); second = ≤ℚ_refl e; one = inr refl }
+earlier_by_is d e side.Less h = record {
+  at = d;
+  is = refl;
+  first = ≤ℚ_refl d;
+  second = ≤ℚ-from_<ℚ d e ((rank_is d e).less.0 h);
+  one = inl refl;
+}
+earlier_by_is d e side.Equal h = record {
+  at = d;
+  is = refl;
+  first = ≤ℚ_refl d;
+  second = ≤ℚ-from_≡ d e ((rank_is d e).equal.0 h);
+  one = inl refl;
+}
+earlier_by_is d e side.Greater h = record {
+  at = e;
+  is = refl;
+  first = ≤ℚ-from_<ℚ e d ((rank_is d e).greater.0 h);
+  second = ≤ℚ_refl e;
+  one = inr refl;
+}
 
 pub earlier_is : (d e : Rational) → IsEarlier (earlier (Some d) (Some e)) d e
 earlier_is d e = earlier_by_is d e (rank d e) refl
@@ -34,14 +52,18 @@ first_by x y t i = subst (λ z. IsBy (earlier z y) t) (sym i.is) (by y)
   where
     by : (y : Option Rational) → IsBy (earlier (Some i.at) y) t
     by None = record { at = i.at; is = refl; no_later = i.no_later }
-    by (Some e) = let l = earlier_is i.at e in record { at = l.at; is = l.is; no_later = ≤ℚ_trans l.at i.at t l.first i.no_later }
+    by (Some e) =
+        let l = earlier_is i.at e in
+        record { at = l.at; is = l.is; no_later = ≤ℚ_trans l.at i.at t l.first i.no_later }
 
 pub second_by : (x y : Option Rational) (t : Rational) → IsBy y t → IsBy (earlier x y) t
 second_by x y t i = subst (λ z. IsBy (earlier x z) t) (sym i.is) (by x)
   where
     by : (x : Option Rational) → IsBy (earlier x (Some i.at)) t
     by None = record { at = i.at; is = refl; no_later = i.no_later }
-    by (Some d) = let l = earlier_is d i.at in record { at = l.at; is = l.is; no_later = ≤ℚ_trans l.at i.at t l.second i.no_later }
+    by (Some d) =
+        let l = earlier_is d i.at in
+        record { at = l.at; is = l.is; no_later = ≤ℚ_trans l.at i.at t l.second i.no_later }
 
 -- what is found is one of the two
 pub earlier_one : (x y : Option Rational) (d : Rational) → earlier x y ≡ Some d → (x ≡ Some d) ⊎ (y ≡ Some d)
@@ -55,7 +77,8 @@ earlier_one (Some e) (Some f) d h =
       | inr k ↦ inr (ap Some (sym k) ∙ same)
     ]
 
-pub kept_is : (f : Rational → Bool) (x : Option Rational) (d : Rational) → kept f x ≡ Some d → (x ≡ Some d) × (f d ≡ true)
+pub kept_is : (f : Rational → Bool) (x : Option Rational) (d : Rational) → kept f x ≡ Some d →
+    (x ≡ Some d) × (f d ≡ true)
 kept_is f None d h = absurd (cc h)
 kept_is f (Some t) d h = passed (f t) refl h
   where
@@ -63,5 +86,6 @@ kept_is f (Some t) d h = passed (f t) refl h
     passed true k h = (h, subst (λ z. f z ≡ true) (cc h) k)
     passed false k h = absurd (cc h)
 
-pub kept_by : (f : Rational → Bool) (x : Option Rational) (d : Rational) → x ≡ Some d → f d ≡ true → kept f x ≡ Some d
+pub kept_by : (f : Rational → Bool) (x : Option Rational) (d : Rational) → x ≡ Some d → f d ≡ true →
+    kept f x ≡ Some d
 kept_by f x d h k = ap (kept f) h ∙ ap (λ (b : Bool). if b then Some d else None) k

@@ -19,7 +19,8 @@ pub data First (f : Rational → Bool) (x : Option Rational) : Type 0 where
   No_moment : x ≡ None → Never f → First f x
 
 pub one_first : (f : Rational → Bool) (x y : Option Rational) → First f x → First f y → x ≡ y
-one_first f x y (Some_moment d h i) (Some_moment e k j) = h ∙ ap Some (≤ℚ_antisymm d e (i.least e j.not_past j.passes) (j.least d i.not_past i.passes)) ∙ sym k
+one_first f x y (Some_moment d h i) (Some_moment e k j) =
+    h ∙ ap Some (≤ℚ_antisymm d e (i.least e j.not_past j.passes) (j.least d i.not_past i.passes)) ∙ sym k
 one_first f x y (Some_moment d h i) (No_moment k n) = absurd (cc (sym i.passes ∙ n d i.not_past))
 one_first f x y (No_moment k n) (Some_moment d h i) = absurd (cc (sym i.passes ∙ n d i.not_past))
 one_first f x y (No_moment h n) (No_moment k m) = h ∙ sym k
@@ -29,7 +30,8 @@ one_first f x y (No_moment h n) (No_moment k m) = h ∙ sym k
 abbrev pub Joins : (Rational → Bool) → (Rational → Bool) → (Rational → Bool) → Type 0
 Joins f g h = (t : Rational) → h t ≡ (f t || g t)
 
-first_of_both : (f g h : Rational → Bool) (d e : Rational) → Joins f g h → IsFirst f d → IsFirst g e → First h (earlier (Some d) (Some e))
+first_of_both : (f g h : Rational → Bool) (d e : Rational) → Joins f g h → IsFirst f d → IsFirst g e →
+    First h (earlier (Some d) (Some e))
 first_of_both f g h d e j i k =
     let l = earlier_is d e in
     let found : (f l.at ≡ true) ⊎ (g l.at ≡ true) = elim l.one [
@@ -71,8 +73,13 @@ second_alone f g h e j n i = record {
   ];
 }
 
-pub first_of_two : (f g h : Rational → Bool) (x y : Option Rational) → Joins f g h → First f x → First g y → First h (earlier x y)
-first_of_two f g h x y j (Some_moment d e i) (Some_moment c k l) = subst (λ z. First h z) (sym (ap₂ earlier e k)) (first_of_both f g h d c j i l)
-first_of_two f g h x y j (Some_moment d e i) (No_moment k n) = Some_moment d (ap₂ earlier e k) (first_alone f g h d j i n)
-first_of_two f g h x y j (No_moment e n) (Some_moment c k l) = Some_moment c (ap₂ earlier e k) (second_alone f g h c j n l)
-first_of_two f g h x y j (No_moment e n) (No_moment k m) = No_moment (ap₂ earlier e k) (λ t l. j t ∙ or_from (f t) (g t) (n t l) (m t l))
+pub first_of_two : (f g h : Rational → Bool) (x y : Option Rational) → Joins f g h → First f x → First g y →
+    First h (earlier x y)
+first_of_two f g h x y j (Some_moment d e i) (Some_moment c k l) =
+    subst (λ z. First h z) (sym (ap₂ earlier e k)) (first_of_both f g h d c j i l)
+first_of_two f g h x y j (Some_moment d e i) (No_moment k n) =
+    Some_moment d (ap₂ earlier e k) (first_alone f g h d j i n)
+first_of_two f g h x y j (No_moment e n) (Some_moment c k l) =
+    Some_moment c (ap₂ earlier e k) (second_alone f g h c j n l)
+first_of_two f g h x y j (No_moment e n) (No_moment k m) =
+    No_moment (ap₂ earlier e k) (λ t l. j t ∙ or_from (f t) (g t) (n t l) (m t l))

@@ -1,4 +1,4 @@
--- What the calls find, in the words of the code: lines, gaps with their crossings, and what is told from them.
+-- What the calls find, in the words of the code: lines, gaps with their crossings, what is told from them.
 use Rattle.std.specs.Prelude.{◌≡◌, ◌&&◌, not, Bool, true, false, Option, Some, if◌then◌else◌}
 use Rattle.hc_rational.specs.Words.{Rational, zero_ℚ, ◌-ℚ◌}
 use Rattle.hc_term.specs.declared.expr.Op.{Op}

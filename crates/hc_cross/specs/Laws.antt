@@ -1,4 +1,4 @@
--- What lines and end moments are: how expressions move, that a condition has one end moment, and what a delay leaves of it.
+-- How expressions move, that a condition has one end moment, and what a delay leaves of it.
 use Rattle.std.specs.Prelude.{◌≡◌, length, IsTrue, Option, Some, None, ⊤}
 use Rattle.hc_rational.specs.Words.{Rational, zero_ℚ, ◌+ℚ◌, ◌-ℚ◌, ◌*ℚ◌, ◌≤ℚ◌}
 use Rattle.hc_term.specs.declared.expr.Expr.{Expr}

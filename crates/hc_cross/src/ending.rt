@@ -14,8 +14,9 @@ use hc_frac::Frac;
 use hc_term::{Comparison, Cond, Unfit};
 use std::cmp::Ordering;
 
-/// When a condition whose comparisons are affine turns false, or `None` where it never does. `Unfit` exactly where a
-/// working value of the condition doesn't fit a fraction, also where another comparison ends earlier.
+/// When a condition whose comparisons are affine turns false, in time units from now and at least 0, or `None`
+/// where it never does. `Unfit` exactly where a working value of one of its comparisons doesn't fit a fraction,
+/// whichever of them ends first.
 pub fn end_moment(
     domain: &Cond,
     store: &[Frac],
@@ -56,8 +57,8 @@ fn end_of_comparison(how: Comparison, gap: &Gap) -> Option<Frac>
     }
 }
 
-/// The end of a condition of any form: now, or the first of its crossings at which it fails. For each crossing the
-/// condition is evaluated whole.
+/// The end of a condition of any form: now, or the first of its crossings at which it fails. The condition is
+/// evaluated whole now, which decides `Unfit`, and at each crossing.
 fn end_by_crossings(
     domain: &Cond,
     store: &[Frac],
@@ -75,8 +76,8 @@ fn end_by_crossings(
     first_failing(domain, domain, store, rates)
 }
 
-/// The first crossing of a part at which the whole condition fails. `Unfit` where a working value of the part doesn't
-/// fit.
+/// The first crossing of a part at which the whole condition fails. `Unfit` exactly where a working value of the
+/// part doesn't fit.
 fn first_failing(
     part: &Cond,
     whole: &Cond,
@@ -106,7 +107,7 @@ fn first_failing(
     }
 }
 
-/// The crossing of a gap, where the whole condition fails at it.
+/// The crossing of a gap, if it has one at which the whole condition fails.
 fn failing_crossing(
     gap: &Gap,
     whole: &Cond,

@@ -21,7 +21,8 @@ pub(crate) struct Gap {
     pub crossing: Option<Frac>,
 }
 
-/// The gap between two affine expressions, or `Unfit` exactly where one of its working values doesn't fit a fraction.
+/// The gap between two affine expressions, or `Unfit` exactly where one of its working values doesn't fit a
+/// fraction.
 pub(crate) fn gap_between(
     left: &Expr,
     right: &Expr,
@@ -83,8 +84,8 @@ fn are_opposite(at: Ordering, slope: Ordering) -> bool
     }
 }
 
-/// Where the gap lies to 0 at a moment from now on. It is told from the signs of value and slope and by whether the
-/// crossing has come: the gap's value at the moment might not fit a fraction.
+/// Where the gap lies to 0 at a moment from now on. It is told from the signs of its value and slope now and by
+/// whether its crossing has come: its value at the moment might not fit a fraction.
 pub(crate) fn side_at(gap: &Gap, moment: Frac) -> Ordering
     requires crossing { KnowsCrossing gap.now }
     requires from_now { zero_ℚ ≤ℚ moment }

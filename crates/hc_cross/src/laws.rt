@@ -8,7 +8,8 @@ pub fn moving_lines()
     ensures { MovesAlongLine }
 {}
 
-/// What holds of every condition whose comparisons are affine. There is nothing to run: the clauses are the laws.
+/// What holds of every condition whose comparisons are affine. There is nothing to run: the clauses are the
+/// laws.
 pub fn end_moments()
     ensures right { EndMomentIsRight }
     ensures one { OneEndMoment }

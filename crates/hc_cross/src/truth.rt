@@ -29,8 +29,8 @@ impl Truth {
     }
 }
 
-/// The truth of an affine condition at a moment from now on, or `Unfit` exactly where a working value of one of its
-/// comparisons doesn't fit a fraction. It is evaluated whole.
+/// The truth of a condition whose comparisons are affine, at a moment from now on, or `Unfit` exactly where a
+/// working value of one of them doesn't fit a fraction. It is evaluated whole.
 pub(crate) fn truth_of(
     cond: &Cond,
     store: &[Frac],

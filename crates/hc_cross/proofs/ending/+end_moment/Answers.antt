@@ -12,6 +12,8 @@ returns-in_ok-second-in-And t c =
     let a = c.get-in-And.result.now in
     let b = c.get-in-And-2.result.now in
     let is : c.args.domain.now ≡ seen.And c.get-in-And.result.now c.get-in-And-2.result.now = cc in (
-      fits-And s r c.args.domain.now a b is ∙ ap₂ (λ x y. x && y) c.in_ok-first-in-And.ensures.0 c.in_ok-second-in-And.ensures.0,
-      c.earlier_of.ensures ∙ ap₂ earlier c.in_ok-first-in-And.ensures.1 c.in_ok-second-in-And.ensures.1 ∙ sym (end-And s r c.args.domain.now a b is),
+      fits-And s r c.args.domain.now a b is
+          ∙ ap₂ (λ x y. x && y) c.in_ok-first-in-And.ensures.0 c.in_ok-second-in-And.ensures.0,
+      c.earlier_of.ensures ∙ ap₂ earlier c.in_ok-first-in-And.ensures.1 c.in_ok-second-in-And.ensures.1
+          ∙ sym (end-And s r c.args.domain.now a b is),
     )

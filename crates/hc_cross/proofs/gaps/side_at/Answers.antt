@@ -10,7 +10,8 @@ returns-in-Less c =
     let l = c.args.gap.now.line in
     let is : crossing l.at l.slope ≡ Some c.in-Some.crossing = cc in
     let by : rank c.args.moment c.in-Some.crossing ≡ side.Less = cc in
-    c.compare-now.ensures ∙ ap (rank l.at) c.zero.ensures ∙ sym (told_before l.at l.slope c.args.moment c.in-Some.crossing is by)
+    c.compare-now.ensures ∙ ap (rank l.at) c.zero.ensures
+    ∙ sym (told_before l.at l.slope c.args.moment c.in-Some.crossing is by)
 
 pub returns-in-Equal : goal.returns-in-Equal
 returns-in-Equal c =
@@ -24,7 +25,8 @@ returns-in-Greater c =
     let l = c.args.gap.now.line in
     let is : crossing l.at l.slope ≡ Some c.in-Some.crossing = cc in
     let by : rank c.args.moment c.in-Some.crossing ≡ side.Greater = cc in
-    c.compare-later.ensures ∙ ap (rank l.slope) c.zero-2.ensures ∙ sym (told_beyond l.at l.slope c.args.moment c.in-Some.crossing is by)
+    c.compare-later.ensures ∙ ap (rank l.slope) c.zero-2.ensures
+    ∙ sym (told_beyond l.at l.slope c.args.moment c.in-Some.crossing is by)
 
 pub returns-in-None : goal.returns-in-None
 returns-in-None c =
