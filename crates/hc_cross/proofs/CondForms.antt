@@ -102,14 +102,14 @@ pub fits-And : (s : Store) (r : Rates) (c a b : Cond) → c ≡ seen.And a b →
     domain_fits s r c ≡ (domain_fits s r a && domain_fits s r b)
 fits-And s r c a b e = search (rules, the_lemmas)
 
-pub is_true : (c : Cond) → c ≡ plain.True → IsConstant c
+is_true : (c : Cond) → c ≡ plain.True → IsConstant c
 is_true c e = record { value = true; judged = λ f. judge-True f c e; found = λ s r f. first-True s r f c e }
 
-pub is_false : (c : Cond) → c ≡ plain.False → IsConstant c
+is_false : (c : Cond) → c ≡ plain.False → IsConstant c
 is_false c e =
     record { value = false; judged = λ f. judge-False f c e; found = λ s r f. first-False s r f c e }
 
-pub is_comparison : (c : Cond) (how : Comparison) (a b : Expr) → c ≡ plain.Compare how a b →
+is_comparison : (c : Cond) (how : Comparison) (a b : Expr) → c ≡ plain.Compare how a b →
     IsComparison c how a b
 is_comparison c how a b e = record {
   judged = λ f. judge-Compare f c how a b e;

@@ -2,7 +2,6 @@
 
 ghost use Rattle.std.specs.Prelude.{◌≡◌, ◌≤◌, length, IsTrue};
 ghost use Rattle.std.specs.Result.{OkIff};
-ghost use Rattle.hc_rational.specs.Words.{fits};
 ghost use Rattle.hc_term.specs.EndMoment.{domain_fits, earlier, fails, is_domain, kept};
 ghost use Rattle.hc_term.specs.EndMoment as end;
 ghost use Rattle.hc_term.specs.Profile.{reach_in};
