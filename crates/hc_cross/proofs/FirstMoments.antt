@@ -1,8 +1,9 @@
 -- The first moment from 0 on at which a test holds, and that of two tests.
 use Rattle.std.proofs.Common.{◌≡◌, ◌⊎◌, inl, inr, sym, ap, ap₂, subst, ◌∙◌, Bool, true, false, ◌||◌, Option, Some, None}
 use Rattle.std.proofs.lemmas.Bool.{or_cases, or_from, or_left, or_right}
-use Rattle.hc_rational.specs.Words.{Rational, zero_ℚ, ◌≤ℚ◌}
+use Rattle.hc_rational.specs.Words.{Rational, zero_ℚ, ◌≤ℚ◌, lesser}
 use Rattle.hc_rational.proofs.OrderLaws.{≤ℚ_antisymm, ≤ℚ_trans}
+use Rattle.hc_rational.proofs.RankLaws.{lesser_is}
 use Rattle.hc_term.specs.EndMoment.{earlier}
 use Rattle.hc_cross.proofs.Earlier.{earlier_is}
 
@@ -33,23 +34,24 @@ Joins f g h = (t : Rational) → h t ≡ (f t || g t)
 first_of_both : (f g h : Rational → Bool) (d e : Rational) → Joins f g h → IsFirst f d → IsFirst g e →
     First h (earlier (Some d) (Some e))
 first_of_both f g h d e j i k =
-    let l = earlier_is d e in
-    let found : (f l.at ≡ true) ⊎ (g l.at ≡ true) = elim l.one [
+    let l = lesser d e in
+    let is = lesser_is d e in
+    let found : (f l ≡ true) ⊎ (g l ≡ true) = elim is.one [
       | inl m ↦ inl (ap f m ∙ i.passes)
       | inr m ↦ inr (ap g m ∙ k.passes)
     ] in
-    Some_moment l.at l.is (record {
-      passes = j l.at ∙ elim found [
-        | inl m ↦ or_left (f l.at) (g l.at) m
-        | inr m ↦ or_right (f l.at) (g l.at) m
+    Some_moment l (earlier_is d e) (record {
+      passes = j l ∙ elim found [
+        | inl m ↦ or_left (f l) (g l) m
+        | inr m ↦ or_right (f l) (g l) m
       ];
-      not_past = elim l.one [
+      not_past = elim is.one [
         | inl m ↦ subst (λ z. zero_ℚ ≤ℚ z) (sym m) i.not_past
         | inr m ↦ subst (λ z. zero_ℚ ≤ℚ z) (sym m) k.not_past
       ];
       least = λ t n p. elim (or_cases (f t) (g t) (sym (j t) ∙ p)) [
-        | inl m ↦ ≤ℚ_trans l.at d t l.first (i.least t n m)
-        | inr m ↦ ≤ℚ_trans l.at e t l.second (k.least t n m)
+        | inl m ↦ ≤ℚ_trans l d t is.first (i.least t n m)
+        | inr m ↦ ≤ℚ_trans l e t is.second (k.least t n m)
       ];
     })
 
