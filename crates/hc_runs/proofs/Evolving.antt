@@ -1,0 +1,115 @@
+-- An evolution of the profile in a delay: its rates stay, its variables move by them, its offers along their lines, and its
+-- bound is the old one less the delay.
+use Rattle.std.proofs.Common.{◌≡◌, refl, sym, ap, ap₂, ◌∙◌, IsTrue, ℕ, Bool, true, false, not, ◌&&◌, List, [], ◌∷◌, map, length, nat_le, nat_lt}
+use Rattle.std.specs.List.{list_all}
+use Rattle.std.proofs.lemmas.Bool.{and_parts, and_from}
+use Rattle.hc_rational.specs.Words.{Rational, zero_ℚ, ◌+ℚ◌, ◌*ℚ◌}
+use Rattle.hc_rational.proofs.FieldLaws.{+ℚ-zero, zero-*ℚ}
+use Rattle.hc_term.specs.declared.expr.Expr.{Expr}
+use Rattle.hc_term.specs.declared.expr.Cond.{Cond}
+use Rattle.hc_term.specs.declared.form.Form.{Form}
+use Rattle.hc_term.specs.declared.stmt.Io.{Io}
+use Rattle.hc_term.specs.declared.stmt.Io.TheVariants.{Send, Receive}
+use Rattle.hc_term.specs.declared.stmt.Rate.{Rate}
+use Rattle.hc_term.specs.declared.stmt.Branch.{Branch, out-Branch}
+use Rattle.hc_term.specs.declared.post.Offer.{Offer}
+use Rattle.hc_term.specs.declared.post.Offer.TheVariants as offer
+use Rattle.hc_term.specs.Value.{Store, val}
+use Rattle.hc_term.specs.Motion.{Rates, rates_in, after, line, form}
+use Rattle.hc_term.specs.Offers.{moving_of, offer_of, offers_of}
+use Rattle.hc_term.specs.Profile.{nodes, reach, is_expr, all_apart, same_variable, pattern_of, is_rate, are_rates, sends_affine, is_moving_domain, is_evolution, ios_in}
+use Rattle.hc_term.specs.Moved.{moving_after, offer_after}
+use Rattle.hc_runs.proofs.Level.{level}
+use Rattle.hc_runs.proofs.Alike.{same_form, unmoved}
+use Rattle.hc_runs.proofs.Later.{length-after, at_later, slope_later, value_stays}
+use Rattle.hc_runs.proofs.Rated.{below, AllStay, stand, rates_stay, moving_moves, length-rates_in, alike}
+use Rattle.hc_runs.proofs.Ending.{Ending, ending}
+
+-- ---- plain offers
+
+no_way : (a m d : Rational) → m ≡ zero_ℚ → a +ℚ m *ℚ d ≡ a
+no_way a m d h = ap (λ z. a +ℚ z *ℚ d) h ∙ ap (λ z. a +ℚ z) (zero-*ℚ d) ∙ +ℚ-zero a
+
+same_send : (c : ℕ) (a b m n : Rational) → a ≡ b → m ≡ n → offer.Send c a m ≡ offer.Send c b n
+same_send c a b m n h k = cc
+
+pub plain_offer : (s : Store) (d : Rational) (io : Io) → offer_of s [] io ≡ offer_after d (offer_of s [] io)
+plain_offer s d (Send c e) =
+    same_send c _ _ _ _ (sym (no_way (line s [] e).at (line s [] e).slope d (level s e))) refl
+plain_offer s d (Receive c x) = refl
+
+pub plain_offers : (s : Store) (d : Rational) (bs : List Branch) → offers_of s [] bs ≡ map (offer_after d) (offers_of s [] bs)
+plain_offers s d [] = refl
+plain_offers s d (b ∷ bs) = ap₂ (λ (o : Offer) (os : List Offer). o ∷ os) (plain_offer s d (out-Branch b).io) (plain_offers s d bs)
+
+-- ---- offers along their lines
+
+module _ (s : Store) (r pattern : Rates) (d : Rational) (paired : length r ≡ length s) (same : (e : Expr) → form r e ≡ form pattern e) where
+  offer_moves : (io : Io) → sends_affine pattern io ≡ true → offer_of (after s r d) r io ≡ offer_after d (offer_of s r io)
+  offer_moves (Send c e) h =
+      let affine : IsTrue (form r e).affine = ap (λ (f : Form). f.affine) (same e) ∙ h in
+      same_send c _ _ _ _ (at_later s r d paired e affine) (slope_later s r d paired e affine)
+  offer_moves (Receive c x) h = refl
+
+  offers_move : (bs : List Branch) → list_all (sends_affine pattern) (ios_in bs) ≡ true → offers_of (after s r d) r bs ≡ map (offer_after d) (offers_of s r bs)
+  offers_move [] h = refl
+  offers_move (b ∷ bs) h =
+      let parts = and_parts (sends_affine pattern (out-Branch b).io) (list_all (sends_affine pattern) (ios_in bs)) h in
+      ap₂ (λ (o : Offer) (os : List Offer). o ∷ os) (offer_moves (out-Branch b).io parts.0) (offers_move bs parts.1)
+
+-- ---- rates
+
+not_true : (b : Bool) → not b ≡ true → b ≡ false
+not_true true h = cc
+not_true false h = refl
+
+module _ (n : ℕ) (pattern : Rates) where
+  all_below : (rs : List Rate) → list_all (is_rate n pattern) rs ≡ true → list_all (below n) rs ≡ true
+  all_below [] h = refl
+  all_below (r ∷ rs) h =
+      let parts = and_parts (is_rate n pattern r) (list_all (is_rate n pattern) rs) h in
+      let ranged = and_parts (nat_lt r.variable n && is_expr n r.value) (not (form pattern r.value).moves) parts.0 in
+      and_from (below n r) (list_all (below n) rs) (and_parts (nat_lt r.variable n) (is_expr n r.value) ranged.0).0 (all_below rs parts.1)
+
+  module _ (s : Store) (r : Rates) (d : Rational) (paired : length r ≡ length s) (same : (e : Expr) → form r e ≡ form pattern e) where
+    rate_stays : (q : Rate) → is_rate n pattern q ≡ true → val (after s r d) q.value ≡ val s q.value
+    rate_stays q h =
+        let e = q.value in
+        let parts = and_parts (nat_lt q.variable n && is_expr n e) (not (form pattern e).moves) h in
+        let still : (form r e).moves ≡ false = ap (λ (f : Form). f.moves) (same e) ∙ not_true (form pattern e).moves parts.1 in
+        let ruled = (and_parts (nat_lt q.variable n) (is_expr n e) parts.0).1 in
+        let plain = (and_parts (nat_le (nodes e) 200 && nat_le (reach e) n) (form [] e).affine ruled).1 in
+        value_stays s r d paired e (ap (λ (f : Form). f.affine) (unmoved r e still) ∙ plain) still
+
+    all_stay : (rs : List Rate) → list_all (is_rate n pattern) rs ≡ true → AllStay s (after s r d) rs
+    all_stay [] h = tt
+    all_stay (q ∷ rs) h =
+        let parts = and_parts (is_rate n pattern q) (list_all (is_rate n pattern) rs) h in
+        (rate_stays q parts.0, all_stay rs parts.1)
+
+-- ---- the evolution
+
+pub record Evolving (s : Store) (rs : List Rate) (c : Cond) (bs : List Branch) (d : Rational) : Type 0 where
+  pub rates : rates_in rs (after s (rates_in rs s) d) ≡ rates_in rs s
+  pub variables : moving_of (after s (rates_in rs s) d) rs ≡ map (moving_after d) (moving_of s rs)
+  pub offers : offers_of (after s (rates_in rs s) d) (rates_in rs s) bs ≡ map (offer_after d) (offers_of s (rates_in rs s) bs)
+  pub ends : Ending s (rates_in rs s) c
+
+pub evolving : (s : Store) (rs : List Rate) (c : Cond) (bs : List Branch) (d : Rational) → is_evolution (length s) rs c (ios_in bs) ≡ true → Evolving s rs c bs d
+evolving s rs c bs d h =
+    let n = length s in
+    let p = pattern_of n rs in
+    let r = rates_in rs s in
+    let paired = length-rates_in rs s in
+    let same = same_form r p (alike rs s) in
+    let parts = and_parts (are_rates n p rs && is_moving_domain n p c) (list_all (sends_affine p) (ios_in bs)) h in
+    let ruled = and_parts (are_rates n p rs) (is_moving_domain n p c) parts.0 in
+    let rated = and_parts (nat_le 1 (length rs) && all_apart same_variable rs) (list_all (is_rate n p) rs) ruled.0 in
+    let apart = (and_parts (nat_le 1 (length rs)) (all_apart same_variable rs) rated.0).1 in
+    let stay = all_stay n p s r d paired same rs rated.1 in
+    record {
+      rates = rates_stay s (after s r d) rs (length-after s r d) stay;
+      variables = moving_moves s r d rs paired (stand s rs (all_below n p rs rated.1) apart) stay;
+      offers = offers_move s r p d paired same bs parts.1;
+      ends = ending s rs c ruled.1;
+    }
