@@ -25,7 +25,7 @@ greater_at_least_by q s h k (inr e) = e
 greater_at_least : (q : Rational) → zero_ℚ ≤ℚ q → greater zero_ℚ q ≡ q
 greater_at_least q h = greater_at_least_by q (greater zero_ℚ q) h (greater_is zero_ℚ q).second (greater_is zero_ℚ q).one
 
-minus_none : (q : Rational) → q -ℚ zero_ℚ ≡ q
+pub minus_none : (q : Rational) → q -ℚ zero_ℚ ≡ q
 minus_none q = sym (+ℚ-zero (q -ℚ zero_ℚ)) ∙ -ℚ-+ℚ q zero_ℚ
 
 wait_by : (d left : Rational) → zero_ℚ ≤ℚ d → d ≤ℚ greater zero_ℚ left → (greater zero_ℚ left ≡ zero_ℚ) ⊎ (greater zero_ℚ left ≡ left) →

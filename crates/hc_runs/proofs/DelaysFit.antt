@@ -1,10 +1,10 @@
 -- What a delay leaves of a process has fractions alone: what the process shows moves, and the working values of that motion fit.
 use Rattle.std.proofs.Common.{◌≡◌, refl, sym, ap, subst, ◌∙◌, ℕ, zero, suc, Bool, true, false, ◌&&◌, ◌||◌, if◌then◌else◌, nat_le, List, [], ◌∷◌, map, length, replicate, slice_set, slice_index_or, Option, Some, None, ◌⊎◌, inl, inr, arith}
 use Rattle.std.specs.List.{list_all}
+use Rattle.std.proofs.lemmas.List.{length-replicate}
 use Rattle.std.proofs.lemmas.Bool.{false≢true, and_parts, and_from, leb-true}
 use Rattle.hc_rational.specs.Words.{Rational, zero_ℚ, ◌+ℚ◌, ◌-ℚ◌, ◌*ℚ◌, ◌≤ℚ◌, fits, greater}
 use Rattle.hc_rational.proofs.OrderLaws.{≤ℚ_antisymm}
-use Rattle.hc_rational.proofs.FieldLaws.{+ℚ-zero, -ℚ-+ℚ}
 use Rattle.hc_rational.proofs.RankLaws.{greater_is}
 use Rattle.hc_term.specs.declared.stmt.Rate.{Rate}
 use Rattle.hc_term.specs.declared.stmt.Stmt.{Stmt, out-Stmt}
@@ -27,6 +27,8 @@ use Rattle.hc_term.specs.Profile.{are_rates, is_moving_domain, is_rate, all_apar
 use Rattle.hc_cross.specs.Laws.{IsWithin}
 use Rattle.hc_term.specs.Moved.{less_by, moving_after, offer_after, moved_post}
 use Rattle.hc_runs.specs.Laws.{in_profile, keeps_profile}
+use Rattle.hc_runs.proofs.Basics.{length-set}
+use Rattle.hc_runs.proofs.Bounds.{minus_none}
 use Rattle.hc_runs.proofs.Evolving.{plain_offer, plain_offers}
 use Rattle.hc_runs.proofs.Moving.{posts_move}
 use Rattle.hc_runs.specs.Fractions.{is_moving_fraction, is_offer_fraction, shows_fractions}
@@ -42,11 +44,6 @@ after_set (u ∷ s) [] d x v h = absurd (omega (arith, h))
 after_set (u ∷ s) (k ∷ r) d zero v h = refl
 after_set (u ∷ s) (k ∷ r) d (suc x) v h = ap (λ l. value_after u k d ∷ l) (after_set s r d x v (omega (arith, h)))
 
-length-set : (r : Rates) (x : ℕ) (v : Option Rational) → length (slice_set r x v) ≡ length r
-length-set [] x v = refl
-length-set (k ∷ r) zero v = refl
-length-set (k ∷ r) (suc x) v = ap suc (length-set r x v)
-
 abbrev nothing : ℕ → Rates
 nothing n = replicate n None
 
@@ -54,10 +51,6 @@ after_nothing : (s : Store) (n : ℕ) (d : Rational) → after s (nothing n) d �
 after_nothing [] n d = refl
 after_nothing (u ∷ s) zero d = refl
 after_nothing (u ∷ s) (suc n) d = ap (λ l. u ∷ l) (after_nothing s n d)
-
-length-nothing : (n : ℕ) → length (nothing n) ≡ n
-length-nothing zero = refl
-length-nothing (suc n) = ap suc (length-nothing n)
 
 module _ (s : Store) (d : Rational) where
   with_fit : (rs : List Rate) (before : Rates) → length before ≡ length s → list_all fits (after s before d) ≡ true →
@@ -72,14 +65,11 @@ module _ (s : Store) (d : Rational) where
       (ap (list_all fits) (after_set s before d r.variable v n) ∙ set_fits (after s before d) r.variable (at +ℚ v *ℚ d) h lands) parts.1
 
   evolved_fits : (rs : List Rate) → list_all fits s ≡ true → list_all (moving_fits d) (moving_of s rs) ≡ true → list_all fits (after s (rates_in rs s) d) ≡ true
-  evolved_fits rs h k = with_fit rs (nothing (length s)) (length-nothing (length s)) (ap (list_all fits) (after_nothing s (length s) d) ∙ h) k
+  evolved_fits rs h k = with_fit rs (nothing (length s)) (length-replicate (length s) None) (ap (list_all fits) (after_nothing s (length s) d) ∙ h) k
 
   store_fits : (l : Layer) → list_all fits s ≡ true → list_all (moving_fits d) (moving_here s l) ≡ true → list_all fits (moved_store s d l) ≡ true
   store_fits (Stmt-F.Evolve rs c bs) h k = evolved_fits rs h k
   store_fits _ h k = h
-
-minus_none : (v : Rational) → v -ℚ zero_ℚ ≡ v
-minus_none v = sym (+ℚ-zero (v -ℚ zero_ℚ)) ∙ -ℚ-+ℚ v zero_ℚ
 
 left_by : (d left : Rational) → zero_ℚ ≤ℚ d → d ≤ℚ greater zero_ℚ left → fits left ≡ true → fits (greater zero_ℚ left -ℚ d) ≡ true →
     (greater zero_ℚ left ≡ zero_ℚ) ⊎ (greater zero_ℚ left ≡ left) → fits (left -ℚ d) ≡ true

@@ -1,8 +1,8 @@
 -- An evolution of the profile in a delay: its rates stay, its variables move by them, its offers along their lines, and its
 -- bound is the old one less the delay.
-use Rattle.std.proofs.Common.{◌≡◌, refl, sym, ap, ap₂, ◌∙◌, IsTrue, ℕ, Bool, true, false, not, ◌&&◌, List, [], ◌∷◌, map, length, nat_le, nat_lt}
+use Rattle.std.proofs.Common.{◌≡◌, refl, sym, ap, ap₂, ◌∙◌, IsTrue, ℕ, true, false, not, ◌&&◌, List, [], ◌∷◌, map, length, nat_le, nat_lt}
 use Rattle.std.specs.List.{list_all}
-use Rattle.std.proofs.lemmas.Bool.{and_parts, and_from}
+use Rattle.std.proofs.lemmas.Bool.{not-true, and_parts, and_from}
 use Rattle.hc_rational.specs.Words.{Rational, zero_ℚ, ◌+ℚ◌, ◌*ℚ◌}
 use Rattle.hc_rational.proofs.FieldLaws.{+ℚ-zero, zero-*ℚ}
 use Rattle.hc_term.specs.declared.expr.Expr.{Expr}
@@ -59,10 +59,6 @@ module _ (s : Store) (r pattern : Rates) (d : Rational) (paired : length r ≡ l
 
 -- ---- rates
 
-not_true : (b : Bool) → not b ≡ true → b ≡ false
-not_true true h = cc
-not_true false h = refl
-
 module _ (n : ℕ) (pattern : Rates) where
   all_below : (rs : List Rate) → list_all (is_rate n pattern) rs ≡ true → list_all (below n) rs ≡ true
   all_below [] h = refl
@@ -76,7 +72,7 @@ module _ (n : ℕ) (pattern : Rates) where
     rate_stays q h =
         let e = q.value in
         let parts = and_parts (nat_lt q.variable n && is_expr n e) (not (form pattern e).moves) h in
-        let still : (form r e).moves ≡ false = ap (λ (f : Form). f.moves) (same e) ∙ not_true (form pattern e).moves parts.1 in
+        let still : (form r e).moves ≡ false = ap (λ (f : Form). f.moves) (same e) ∙ not-true (form pattern e).moves parts.1 in
         let ruled = (and_parts (nat_lt q.variable n) (is_expr n e) parts.0).1 in
         let plain = (and_parts (nat_le (nodes e) 200 && nat_le (reach e) n) (form [] e).affine ruled).1 in
         value_stays s r d paired e (ap (λ (f : Form). f.affine) (unmoved r e still) ∙ plain) still

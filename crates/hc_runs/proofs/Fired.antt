@@ -1,5 +1,5 @@
 -- After a meeting the two that met show what their new states show, and all others what they showed.
-use Rattle.std.proofs.Common.{◌≡◌, ◌≢◌, refl, sym, ap, ◌∙◌, ℕ, zero, suc, List, [], ◌∷◌, map, slice_get, slice_set, Some}
+use Rattle.std.proofs.Common.{◌≡◌, ◌≢◌, sym, ap, ◌∙◌, ℕ, zero, suc, List, [], ◌∷◌, map, slice_get, slice_set, Some}
 use Rattle.hc_rational.specs.Words.{Rational}
 use Rattle.hc_term.specs.declared.post.Post.{Post}
 use Rattle.hc_term.specs.declared.model.ProcessState.{ProcessState}
@@ -8,6 +8,7 @@ use Rattle.hc_term.specs.Communication.{sent, received}
 use Rattle.hc_term.specs.Step.{posts, changed}
 use Rattle.hc_term.proofs.Places.{set-set_other, get-changed_other}
 use Rattle.hc_runs.specs.Laws.{PostsMeet}
+use Rattle.hc_runs.proofs.Basics.{set_twice}
 
 -- a change of one process is a change of its post
 post_changed : (clock : Rational) (f : ProcessState → ProcessState) (qs : List ProcessState) (p : ℕ) (q : ProcessState) → slice_get qs p ≡ Some q →
@@ -15,11 +16,6 @@ post_changed : (clock : Rational) (f : ProcessState → ProcessState) (qs : List
 post_changed clock f [] p q at = cc
 post_changed clock f (r ∷ qs) zero q at = let same : r ≡ q = cc in ap (λ (x : ProcessState). post clock (f x) ∷ map (post clock) qs) same
 post_changed clock f (r ∷ qs) (suc p) q at = ap (λ (l : List Post). post clock r ∷ l) (post_changed clock f qs p q at)
-
-set_twice : (ps : List Post) (p : ℕ) (x y : Post) → slice_set (slice_set ps p x) p y ≡ slice_set ps p y
-set_twice [] p x y = refl
-set_twice (z ∷ ps) zero x y = refl
-set_twice (z ∷ ps) (suc p) x y = ap (λ (l : List Post). z ∷ l) (set_twice ps p x y)
 
 -- what two places held before doesn't matter where both are set anew
 set_both : (ps : List Post) (s r : ℕ) (g x y : Post) → s ≢ r →

@@ -1,7 +1,7 @@
 -- What one process offers that keeps the rules: channels in range, none twice in one direction.
 use Rattle.std.proofs.Common.{◌≡◌, refl, sym, ap, ap₂, ◌∙◌, ℕ, ◌+◌, ◌≤◌, Bool, true, false, cond, not, ◌&&◌, ◌||◌, ◌==◌, if◌then◌else◌, nat_lt, nat_le, List, [], ◌∷◌, length, count_by, is_some, Option, Some, None, arith}
 use Rattle.std.specs.List.{list_all, list_any}
-use Rattle.std.proofs.lemmas.Bool.{false≢true, and_parts, eqb-true, eq-eqb}
+use Rattle.std.proofs.lemmas.Bool.{false≢true, and_parts, not-true, eqb-true, eq-eqb}
 use Rattle.std.proofs.lemmas.List.Sums.{sum_by-cons}
 use Rattle.hc_rational.specs.Words.{Rational}
 use Rattle.hc_term.specs.declared.stmt.Io.{Io}
@@ -21,6 +21,7 @@ use Rattle.hc_term.specs.Profile.{is_io, is_same_io, is_expr, is_evolution, all_
 use Rattle.hc_term.specs.Rules.{is_stmt, is_on}
 use Rattle.hc_term.proofs.Ruled.{all_keep, branches_keep}
 use Rattle.hc_term.specs.Together.{is_offer, channel_of}
+use Rattle.hc_runs.proofs.Basics.{neither_of}
 use Rattle.hc_runs.proofs.Ruled.{ruled_here, ruled_is, Ruled}
 
 -- ---- counts
@@ -48,14 +49,6 @@ same_on false c (Receive d x) (Receive e y) h k = eq-eqb d e (eqb-true d c h ∙
 same_on false c (Receive d x) (Send e w) h k = absurd (false≢true k)
 same_on false c (Send d v) j h k = absurd (false≢true h)
 
-neither_of : (a b : Bool) → (a || b) ≡ false → (a ≡ false) × (b ≡ false)
-neither_of true b h = absurd (false≢true (sym h))
-neither_of false b h = (refl, h)
-
-not_true : (b : Bool) → not b ≡ true → b ≡ false
-not_true true h = absurd (false≢true h)
-not_true false h = refl
-
 module _ (sending : Bool) (c : ℕ) where
   no_other_by : (i j : Io) (others : Bool) (b : Bool) → is_on sending c i ≡ true → is_same_io i j ≡ false → is_on sending c j ≡ b → others ≡ false →
       (b || others) ≡ false
@@ -80,7 +73,7 @@ module _ (sending : Bool) (c : ℕ) where
   once_on [] h = omega arith
   once_on (i ∷ ios) h =
       let parts = and_parts (not (list_any (is_same_io i) ios)) (all_apart is_same_io ios) h in
-      once_by i ios (is_on sending c i) refl (not_true (list_any (is_same_io i) ios) parts.0) (once_on ios parts.1)
+      once_by i ios (is_on sending c i) refl (not-true (list_any (is_same_io i) ios) parts.0) (once_on ios parts.1)
 
   some_if : (b : Bool) (v : Rational) → is_some (if b then Some v else None) ≡ b
   some_if true v = refl

@@ -1,6 +1,6 @@
 -- What a step leaves to do is made of what was to do: of its statements and of those inside them. So a test on statements that
 -- passes on to what is inside holds of what is left, where it held of the whole.
-use Rattle.std.proofs.Common.{◌≡◌, refl, sym, ap, ◌∙◌, ℕ, zero, suc, Bool, true, false, ◌&&◌, ◌==◌, if◌then◌else◌, List, [], ◌∷◌, ◌++◌, length, slice_set, Option}
+use Rattle.std.proofs.Common.{◌≡◌, refl, sym, ap, ◌∙◌, ℕ, Bool, true, false, ◌&&◌, ◌==◌, if◌then◌else◌, List, [], ◌∷◌, ◌++◌, length, Option}
 use Rattle.std.specs.List.{list_all}
 use Rattle.std.proofs.lemmas.Bool.{and_parts, and_from}
 use Rattle.std.proofs.lemmas.List.Folds.{list_all-append}
@@ -18,6 +18,7 @@ use Rattle.hc_term.specs.Motion.{rates_in}
 use Rattle.hc_term.specs.Process.{Layer, bound, is_due}
 use Rattle.hc_term.specs.Silent.{Outcome, Idle, Unfit, Did, if_fit, goes_on, picks_left, going_step, silent}
 use Rattle.hc_term.specs.Communication.{if_sends, sent_branch, sent_here, sent_at, sent, Taken, if_receives, received_branch, received_here, received_at, received, moved_store, moved_at, moved}
+use Rattle.hc_runs.proofs.Basics.{length-set}
 use Rattle.hc_runs.proofs.Later.{length-after}
 
 -- ---- a test on statements
@@ -92,11 +93,6 @@ inside_received c (Stmt-F.Io io) = record { passed = λ f h. receives_pass f c i
 inside_received c (Stmt-F.Choice branches) = record { passed = λ f h. received_branch-passes f c branches h }
 inside_received c (Stmt-F.Evolve rates domain branches) = record { passed = λ f h. received_branch-passes f c branches h }
 inside_received c _ = inside_none _
-
-length-set : (xs : Store) (y : ℕ) (v : Rational) → length (slice_set xs y v) ≡ length xs
-length-set [] y v = refl
-length-set (x ∷ xs) zero v = refl
-length-set (x ∷ xs) (suc y) v = ap suc (length-set xs y v)
 
 module _ (before : List Stmt) (n : ℕ) where
   -- a process of n variables, of which there is left to do what is made of these statements

@@ -1,3 +1,4 @@
+pub mod Basics
 pub mod Level
 pub mod Alike
 pub mod Later

@@ -1,8 +1,9 @@
 -- What all posts offer together: a channel is offered by users of it alone, of which a system has one for each direction.
-use Rattle.std.proofs.Common.{◌≡◌, refl, sym, ap, ◌∙◌, subst, ℕ, ◌≤◌, ◌<◌, Bool, true, false, cond, not, ◌&&◌, ◌||◌, List, [], ◌∷◌, map, length, count_by, Option, Some, None, arith}
+use Rattle.std.proofs.Common.{◌≡◌, refl, sym, ap, ◌∙◌, subst, ℕ, ◌≤◌, ◌<◌, Bool, true, false, cond, not, ◌&&◌, List, [], ◌∷◌, map, length, count_by, Option, Some, None, arith}
 use Rattle.std.specs.List.{list_all, list_any}
 use Rattle.std.proofs.lemmas.Bool.{true≢false, and_parts, and_from, not-true, leb-true}
 use Rattle.std.proofs.lemmas.List.Sums.{sum_by-cons}
+use Rattle.std.proofs.lemmas.List.Folds.{list_all-map}
 use Rattle.hc_rational.specs.Words.{Rational, zero_ℚ}
 use Rattle.hc_term.specs.declared.system.Process.{Process}
 use Rattle.hc_term.specs.declared.task.Task.{Task}
@@ -16,10 +17,11 @@ use Rattle.hc_term.proofs.Handed.{offered-used}
 use Rattle.hc_cross.specs.Laws.{IsWithin}
 use Rattle.hc_term.specs.Together.{is_offer, offered, is_on_both, not_past}
 use Rattle.hc_runs.specs.Laws.{PostsArePaired}
+use Rattle.hc_runs.proofs.Basics.{neither_of}
 use Rattle.hc_runs.proofs.Bounds.{not_negative}
 use Rattle.hc_runs.proofs.Moving.{bound_not_past}
 use Rattle.hc_runs.proofs.Resting.{shown_bound}
-use Rattle.hc_runs.proofs.Parts.{IsPart, part_ruled, AreParts, reached_keeps, ruled_profile}
+use Rattle.hc_runs.proofs.Parts.{IsPart, part_ruled, AreParts, reached_keeps, ruled_profile, all_pass}
 use Rattle.hc_runs.proofs.Guarded.{count-none, is_in_range, guarded}
 
 module _ (channels : ℕ) (clock : Rational) where
@@ -28,13 +30,14 @@ module _ (channels : ℕ) (clock : Rational) where
 
   -- ---- channels in range
 
+  part_in_range : (b : Process) (q : ProcessState) → IsPart channels b q → list_all (is_in_range channels) (post clock q).offers ≡ true
+  part_in_range b q k = (guarded channels (length b.variables) clock q (part_ruled channels b q k)).in_range
+
   all_in_range : (bodies : List Process) (qs : List ProcessState) → AreParts channels bodies qs →
       list_all (λ (p : Post). list_all (is_in_range channels) p.offers) (shown qs) ≡ true
-  all_in_range bodies [] k = refl
-  all_in_range [] (q ∷ qs) k = absurd k
-  all_in_range (b ∷ bodies) (q ∷ qs) k =
-      and_from (list_all (is_in_range channels) (post clock q).offers) (list_all (λ (p : Post). list_all (is_in_range channels) p.offers) (shown qs))
-      (guarded channels (length b.variables) clock q (part_ruled channels b q k.0)).in_range (all_in_range bodies qs k.1)
+  all_in_range bodies qs k =
+      list_all-map (λ (p : Post). list_all (is_in_range channels) p.offers) (post clock) qs
+      ∙ all_pass channels (λ (q : ProcessState). list_all (is_in_range channels) (post clock q).offers) part_in_range bodies qs k
 
   -- ---- one direction
 
@@ -67,10 +70,6 @@ module _ (channels : ℕ) (clock : Rational) where
 
   -- ---- both directions
 
-  neither_of : (a b : Bool) → (a || b) ≡ false → (a ≡ false) × (b ≡ false)
-  neither_of true b h = absurd (true≢false h)
-  neither_of false b h = (refl, h)
-
   not_both : (x y u v : Bool) → (x ≡ true → u ≡ true) → (y ≡ true → v ≡ true) → (u && v) ≡ false → not (x && y) ≡ true
   not_both true true u v h k none = absurd (true≢false (sym (and_from u v (h refl) (k refl)) ∙ none))
   not_both true false u v h k none = refl
@@ -93,13 +92,14 @@ module _ (channels : ℕ) (clock : Rational) where
   within_not_past None h = refl
   within_not_past (Some b) h = not_negative b h
 
+  part_not_past : (b : Process) (q : ProcessState) → IsPart channels b q → not_past (post clock q).bound ≡ true
+  part_not_past b q k =
+      let from_zero = bound_not_past q (ruled_profile channels (length b.variables) q (part_ruled channels b q k)) in
+      ap not_past (shown_bound clock q) ∙ within_not_past (bound q) from_zero
+
   all_not_past : (bodies : List Process) (qs : List ProcessState) → AreParts channels bodies qs → list_all (λ (p : Post). not_past p.bound) (shown qs) ≡ true
-  all_not_past bodies [] k = refl
-  all_not_past [] (q ∷ qs) k = absurd k
-  all_not_past (b ∷ bodies) (q ∷ qs) k =
-      let from_zero = bound_not_past q (ruled_profile channels (length b.variables) q (part_ruled channels b q k.0)) in
-      and_from (not_past (post clock q).bound) (list_all (λ (p : Post). not_past p.bound) (shown qs))
-      (ap not_past (shown_bound clock q) ∙ within_not_past (bound q) from_zero) (all_not_past bodies qs k.1)
+  all_not_past bodies qs k =
+      list_all-map (λ (p : Post). not_past p.bound) (post clock) qs ∙ all_pass channels (λ (q : ProcessState). not_past (post clock q).bound) part_not_past bodies qs k
 
 -- ---- the law
 

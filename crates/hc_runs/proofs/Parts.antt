@@ -161,19 +161,23 @@ module _ (channels n : ℕ) where
   ruled_profile q h = ap (λ (m : ℕ). heads_in_profile m q.todo) h.sized ∙ heads_keep q.todo h.ruled
 
 module _ (channels : ℕ) where
-  pub all_in_profile : (bodies : List Process) (qs : List ProcessState) → AreParts channels bodies qs → list_all keeps_profile qs ≡ true
-  all_in_profile bodies [] k = refl
-  all_in_profile [] (q ∷ qs) k = absurd k
-  all_in_profile (b ∷ bodies) (q ∷ qs) k =
-      and_from (keeps_profile q) (list_all keeps_profile qs) (ruled_profile channels (length b.variables) q (part_ruled channels b q k.0)) (all_in_profile bodies qs k.1)
+  -- a test that holds of every part holds of all processes
+  pub all_pass : (f : ProcessState → Bool) → ((b : Process) (q : ProcessState) → IsPart channels b q → f q ≡ true) → (bodies : List Process) (qs : List ProcessState) →
+      AreParts channels bodies qs → list_all f qs ≡ true
+  all_pass f h bodies [] k = refl
+  all_pass f h [] (q ∷ qs) k = absurd k
+  all_pass f h (b ∷ bodies) (q ∷ qs) k = and_from (f q) (list_all f qs) (h b q k.0) (all_pass f h bodies qs k.1)
 
-  all_ruled : (bodies : List Process) (qs : List ProcessState) → AreParts channels bodies qs → list_all (is_ruled channels) qs ≡ true
-  all_ruled bodies [] k = refl
-  all_ruled [] (q ∷ qs) k = absurd k
-  all_ruled (b ∷ bodies) (q ∷ qs) k =
-      let rules = part_ruled channels b q k.0 in
-      and_from (is_ruled channels q) (list_all (is_ruled channels) qs) (ap (λ (m : ℕ). list_all (is_stmt channels m) q.todo) rules.sized ∙ rules.ruled)
-      (all_ruled bodies qs k.1)
+  part_in_profile : (b : Process) (q : ProcessState) → IsPart channels b q → keeps_profile q ≡ true
+  part_in_profile b q k = ruled_profile channels (length b.variables) q (part_ruled channels b q k)
+
+  pub all_in_profile : (bodies : List Process) (qs : List ProcessState) → AreParts channels bodies qs → list_all keeps_profile qs ≡ true
+  all_in_profile bodies qs k = all_pass keeps_profile part_in_profile bodies qs k
+
+  part_is_ruled : (b : Process) (q : ProcessState) → IsPart channels b q → is_ruled channels q ≡ true
+  part_is_ruled b q k =
+      let rules = part_ruled channels b q k in
+      ap (λ (m : ℕ). list_all (is_stmt channels m) q.todo) rules.sized ∙ rules.ruled
 
 -- what a test that passes on to what is inside says of all bodies, it says of all that is left to do
 pub all_made : (channels : ℕ) (f : Stmt → Bool) → PassesInside f → (bodies : List Process) (qs : List ProcessState) → AreParts channels bodies qs →
@@ -188,4 +192,6 @@ all_made channels f inside (b ∷ bodies) (q ∷ qs) k h =
 pub runs_keep_rules : RunsKeepRules
 runs_keep_rules t items c run =
     let k = reached_keeps t items c run in
-    (all_ruled (length t.system.channels) t.system.processes c.processes k, all_in_profile (length t.system.channels) t.system.processes c.processes k)
+    let n = length t.system.channels in
+    let bodies = t.system.processes in
+    (all_pass n (is_ruled n) (part_is_ruled n) bodies c.processes k, all_in_profile n bodies c.processes k)

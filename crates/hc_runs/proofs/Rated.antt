@@ -1,8 +1,9 @@
 -- The rates of an evolution by their variables: each variable has the rate that its one entry says, and which of them evolve is
 -- told by the entries alone.
-use Rattle.std.proofs.Common.{◌≡◌, ◌≢◌, nat_lt, refl, sym, ap, ap₂, ◌∙◌, ℕ, zero, suc, ◌<◌, ◌==◌, Bool, true, false, not, ◌||◌, List, [], ◌∷◌, map, length, replicate, slice_set, slice_index_or, Option, Some, None, arith}
+use Rattle.std.proofs.Common.{◌≡◌, ◌≢◌, nat_lt, refl, sym, ap, ap₂, ◌∙◌, ℕ, zero, suc, ◌<◌, ◌==◌, Bool, true, false, not, List, [], ◌∷◌, map, length, replicate, slice_set, slice_index_or, Option, Some, None, arith}
 use Rattle.std.specs.List.{list_all, list_any}
-use Rattle.std.proofs.lemmas.Bool.{false≢true, and_parts, ltb-true, eq-eqb}
+use Rattle.std.proofs.lemmas.List.{length-replicate}
+use Rattle.std.proofs.lemmas.Bool.{false≢true, and_parts, not-true, ltb-true, eq-eqb}
 use Rattle.hc_rational.specs.Words.{Rational, zero_ℚ, ◌+ℚ◌, ◌*ℚ◌}
 use Rattle.hc_rational.proofs.FieldLaws.{+ℚ-zero, zero-*ℚ}
 use Rattle.hc_term.specs.declared.stmt.Rate.{Rate}
@@ -12,6 +13,7 @@ use Rattle.hc_term.specs.Motion.{Rates, with_rates, rates_in, value_after, after
 use Rattle.hc_term.specs.Offers.{moving_of}
 use Rattle.hc_term.specs.Profile.{all_apart, pattern_from, pattern_of, same_variable}
 use Rattle.hc_term.specs.Moved.{moving_after}
+use Rattle.hc_runs.proofs.Basics.{neither_of, length-set}
 
 -- ---- a place of a list that is set
 
@@ -28,11 +30,6 @@ module _ {A : Type 0} (d v : A) where
   set_same (z ∷ xs) zero h = refl
   set_same (z ∷ xs) (suc x) h = set_same xs x (omega (arith, h))
 
-  length-set : (xs : List A) (y : ℕ) → length (slice_set xs y v) ≡ length xs
-  length-set [] y = refl
-  length-set (z ∷ xs) zero = refl
-  length-set (z ∷ xs) (suc y) = ap suc (length-set xs y)
-
 map-set : {A B : Type 0} (f : A → B) (xs : List A) (y : ℕ) (v : A) → map f (slice_set xs y v) ≡ slice_set (map f xs) y (f v)
 map-set f [] y v = refl
 map-set f (x ∷ xs) zero v = refl
@@ -41,18 +38,14 @@ map-set f (x ∷ xs) (suc y) v = ap (λ l. f x ∷ l) (map-set f xs y v)
 abbrev nothing : ℕ → Rates
 nothing n = replicate n None
 
-length-none : (n : ℕ) → length (nothing n) ≡ n
-length-none zero = refl
-length-none (suc n) = ap suc (length-none n)
-
 -- ---- rates
 
 length-with : (before : Rates) (rs : List Rate) (s : Store) → length (with_rates before rs s) ≡ length before
 length-with before [] s = refl
-length-with before (r ∷ rs) s = length-with (slice_set before r.variable (Some (val s r.value))) rs s ∙ length-set None (Some (val s r.value)) before r.variable
+length-with before (r ∷ rs) s = length-with (slice_set before r.variable (Some (val s r.value))) rs s ∙ length-set before r.variable (Some (val s r.value))
 
 pub length-rates_in : (rs : List Rate) (s : Store) → length (rates_in rs s) ≡ length s
-length-rates_in rs s = length-with (replicate (length s) None) rs s ∙ length-none (length s)
+length-rates_in rs s = length-with (replicate (length s) None) rs s ∙ length-replicate (length s) None
 
 same_pattern : (s : Store) (rs : List Rate) (before pattern : Rates) → map evolves before ≡ map evolves pattern →
     map evolves (with_rates before rs s) ≡ map evolves (pattern_from pattern rs)
@@ -74,16 +67,8 @@ AllStand k s (r ∷ rs) = (slice_index_or k r.variable None ≡ Some (val s r.va
 abbrev pub below : ℕ → Rate → Bool
 below n r = nat_lt r.variable n
 
-not_true : (b : Bool) → not b ≡ true → b ≡ false
-not_true true h = cc
-not_true false h = refl
-
 apart_is : (x y : ℕ) → (x == y) ≡ false → x ≢ y
 apart_is x y h e = false≢true (sym h ∙ ap (λ (z : ℕ). x == z) (sym e) ∙ eq-eqb x x refl)
-
-neither_of : (a b : Bool) → (a || b) ≡ false → (a ≡ false) × (b ≡ false)
-neither_of true b h = cc
-neither_of false b h = (refl, h)
 
 others_leave : (s : Store) (r : Rate) (rs : List Rate) (before : Rates) → list_any (same_variable r) rs ≡ false →
     slice_index_or (with_rates before rs s) r.variable None ≡ slice_index_or before r.variable None
@@ -101,13 +86,13 @@ with_stand s (r ∷ rs) before h k =
     let apart = and_parts (not (list_any (same_variable r) rs)) (all_apart same_variable rs) k in
     let v : Option Rational = Some (val s r.value) in
     let next : Rates = slice_set before r.variable v in (
-      others_leave s r rs next (not_true _ apart.0) ∙ set_same None v before r.variable (ltb-true r.variable (length before) in_range.0),
-      with_stand s rs next (ap (λ (n : ℕ). list_all (below n) rs) (length-set None v before r.variable) ∙ in_range.1) apart.1,
+      others_leave s r rs next (not-true _ apart.0) ∙ set_same None v before r.variable (ltb-true r.variable (length before) in_range.0),
+      with_stand s rs next (ap (λ (n : ℕ). list_all (below n) rs) (length-set before r.variable v) ∙ in_range.1) apart.1,
     )
 
 pub stand : (s : Store) (rs : List Rate) → list_all (below (length s)) rs ≡ true → all_apart same_variable rs ≡ true → AllStand (rates_in rs s) s rs
 stand s rs h k =
-    with_stand s rs (replicate (length s) None) (ap (λ (n : ℕ). list_all (below n) rs) (length-none (length s)) ∙ h) k
+    with_stand s rs (replicate (length s) None) (ap (λ (n : ℕ). list_all (below n) rs) (length-replicate (length s) None) ∙ h) k
 
 -- ---- after a delay
 
