@@ -3,13 +3,18 @@ use Rattle.std.proofs.Common.{rules, ◌≡◌, refl, sym, ◌∙◌, Bool, true
 use Rattle.std.specs.List.{list_all}
 use Rattle.std.proofs.lemmas.Bool.{and_parts, and_from}
 use Rattle.std.proofs.lemmas.List.Folds.{list_all-map}
+use Rattle.hc_term.specs.declared.expr.Cond.{Cond}
 use Rattle.hc_term.specs.declared.stmt.Rate.{Rate}
 use Rattle.hc_term.specs.declared.stmt.Stmt.{Stmt, out-Stmt, the_lemmas}
 use Rattle.hc_term.specs.declared.stmt.Stmt.TheOpen.{Stmt-F}
+use Rattle.hc_term.specs.declared.stmt.Stmt.TheViews as seen
 use Rattle.hc_term.specs.declared.stmt.Branch.{Branch, out-Branch}
 use Rattle.hc_term.specs.Process.{Layer}
 use Rattle.hc_runs.specs.Fractions.{numbers, numbers_sent, numbers_in, all_numbers}
 use Rattle.hc_runs.proofs.Inside.{all_in_branches, all_inside, PassesInside}
+
+abbrev pub rate_numbers : List Rate → Bool
+rate_numbers rs = list_all (λ r. numbers r.value) rs
 
 abbrev pub branch_numbers : List Branch → Bool
 branch_numbers bs = list_all (λ b. numbers_sent (out-Branch b).io && all_numbers (out-Branch b).body) bs
@@ -25,7 +30,7 @@ numbers_here (Stmt-F.Pick left right) = all_numbers left && all_numbers right
 numbers_here (Stmt-F.Forever body) = all_numbers body
 numbers_here (Stmt-F.Loop test body) = all_numbers body
 numbers_here (Stmt-F.Choice branches) = branch_numbers branches
-numbers_here (Stmt-F.Evolve rates domain branches) = list_all (λ r. numbers r.value) rates && branch_numbers branches
+numbers_here (Stmt-F.Evolve rates domain branches) = rate_numbers rates && branch_numbers branches
 numbers_here _ = true
 
 module _ (s : Stmt) where
@@ -45,6 +50,26 @@ module _ (s : Stmt) where
   pub numbers_is : numbers_in s ≡ numbers_here (out-Stmt s)
   numbers_is = layer_numbers (out-Stmt s) refl
 
+-- the same where a statement is seen as one of its forms
+module _ (s : Stmt) where
+  pub numbers-If : (c : Cond) (ss rs : List Stmt) → s ≡ seen.If c ss rs → numbers_in s ≡ (all_numbers ss && all_numbers rs)
+  numbers-If c ss rs e = search (rules, the_lemmas, list_all-map)
+
+  pub numbers-Pick : (ss rs : List Stmt) → s ≡ seen.Pick ss rs → numbers_in s ≡ (all_numbers ss && all_numbers rs)
+  numbers-Pick ss rs e = search (rules, the_lemmas, list_all-map)
+
+  pub numbers-Forever : (ss : List Stmt) → s ≡ seen.Forever ss → numbers_in s ≡ all_numbers ss
+  numbers-Forever ss e = search (rules, the_lemmas, list_all-map)
+
+  pub numbers-Loop : (c : Cond) (ss : List Stmt) → s ≡ seen.Loop c ss → numbers_in s ≡ all_numbers ss
+  numbers-Loop c ss e = search (rules, the_lemmas, list_all-map)
+
+  pub numbers-Choice : (bs : List Branch) → s ≡ seen.Choice bs → numbers_in s ≡ branch_numbers bs
+  numbers-Choice bs e = search (rules, the_lemmas, list_all-map)
+
+  pub numbers-Evolve : (rs : List Rate) (c : Cond) (bs : List Branch) → s ≡ seen.Evolve rs c bs → numbers_in s ≡ (rate_numbers rs && branch_numbers bs)
+  numbers-Evolve rs c bs e = search (rules, the_lemmas, list_all-map)
+
 branches_inside : (bs : List Branch) → branch_numbers bs ≡ true → all_in_branches numbers_in bs ≡ true
 branches_inside [] h = refl
 branches_inside (b ∷ bs) h =
@@ -58,7 +83,7 @@ layer_inside (Stmt-F.Pick left right) h = h
 layer_inside (Stmt-F.Forever body) h = h
 layer_inside (Stmt-F.Loop test body) h = h
 layer_inside (Stmt-F.Choice bs) h = branches_inside bs h
-layer_inside (Stmt-F.Evolve rs c bs) h = branches_inside bs (and_parts (list_all (λ (r : Rate). numbers r.value) rs) (branch_numbers bs) h).1
+layer_inside (Stmt-F.Evolve rs c bs) h = branches_inside bs (and_parts (rate_numbers rs) (branch_numbers bs) h).1
 layer_inside _ h = refl
 
 pub numbered_inside : PassesInside numbers_in

@@ -25,7 +25,7 @@ use Rattle.hc_term.specs.Offers.{moving_of, offer_of, offers_of, moving_here, of
 use Rattle.hc_runs.proofs.Level.{level}
 use Rattle.hc_runs.specs.Fractions.{numbers, numbers_sent, all_numbers, is_moving_fraction, is_offer_fraction, shows_fractions}
 use Rattle.hc_runs.proofs.ValuesFit.{index_fits, value_fits, at_fits, slope_fits, at_is, end_fits}
-use Rattle.hc_runs.proofs.Numbered.{branch_numbers}
+use Rattle.hc_runs.proofs.Numbered.{rate_numbers, branch_numbers}
 
 -- what a process shows that has arrived at a statement
 abbrev pub here : Rational → Store → Rational → Layer → Post
@@ -88,9 +88,6 @@ module _ (s : Store) (stored : list_all fits s ≡ true) where
 
   -- ---- evolutions
 
-  abbrev all_rates : List Rate → Bool
-  all_rates rs = list_all (λ (r : Rate). numbers r.value) rs
-
   set_rates : (k : Rates) (x : ℕ) (v : Rational) → list_all fits_if k ≡ true → fits v ≡ true → list_all fits_if (slice_set k x (Some v)) ≡ true
   set_rates [] x v h j = h
   set_rates (u ∷ k) zero v h j = and_from (fits v) (list_all fits_if k) j (and_parts (fits_if u) (list_all fits_if k) h).1
@@ -98,11 +95,11 @@ module _ (s : Store) (stored : list_all fits s ≡ true) where
       let parts = and_parts (fits_if u) (list_all fits_if k) h in
       and_from (fits_if u) (list_all fits_if (slice_set k x (Some v))) parts.0 (set_rates k x v parts.1 j)
 
-  with_fit : (rs : List Rate) (before : Rates) → all_rates rs ≡ true → rates_fit s rs ≡ true → list_all fits_if before ≡ true →
+  with_fit : (rs : List Rate) (before : Rates) → rate_numbers rs ≡ true → rates_fit s rs ≡ true → list_all fits_if before ≡ true →
       list_all fits_if (with_rates before rs s) ≡ true
   with_fit [] before n h k = k
   with_fit (r ∷ rs) before n h k =
-      let ns = and_parts (numbers r.value) (all_rates rs) n in
+      let ns = and_parts (numbers r.value) (rate_numbers rs) n in
       let parts = and_parts (is_fitting s r.value) (rates_fit s rs) h in
       with_fit rs (slice_set before r.variable (Some (val s r.value))) ns.1 parts.1 (set_rates before r.variable (val s r.value) k (value_fits s stored r.value ns.0 parts.0))
 
@@ -113,10 +110,10 @@ module _ (s : Store) (stored : list_all fits s ≡ true) where
   nothing_fits zero = refl
   nothing_fits (suc n) = nothing_fits n
 
-  moving_fit : (rs : List Rate) → all_rates rs ≡ true → rates_fit s rs ≡ true → list_all is_moving_fraction (moving_of s rs) ≡ true
+  moving_fit : (rs : List Rate) → rate_numbers rs ≡ true → rates_fit s rs ≡ true → list_all is_moving_fraction (moving_of s rs) ≡ true
   moving_fit [] n h = refl
   moving_fit (r ∷ rs) n h =
-      let ns = and_parts (numbers r.value) (all_rates rs) n in
+      let ns = and_parts (numbers r.value) (rate_numbers rs) n in
       let parts = and_parts (is_fitting s r.value) (rates_fit s rs) h in
       and_from (fits (slice_index_or s r.variable zero_ℚ) && fits (val s r.value)) (list_all is_moving_fraction (moving_of s rs))
       (and_from (fits (slice_index_or s r.variable zero_ℚ)) (fits (val s r.value)) (index_fits s r.variable stored) (value_fits s stored r.value ns.0 parts.0))
@@ -153,12 +150,12 @@ module _ (s : Store) (stored : list_all fits s ≡ true) where
       shows_fractions (here clock s left (Stmt-F.Choice bs)) ≡ true
   choice_shows clock left bs n h = shows None None [] (offers_of s [] bs) refl refl refl (choice_fits bs n h)
 
-  pub evolve_shows : (clock left : Rational) (rs : List Rate) (c : Cond) (bs : List Branch) → (all_rates rs && branch_numbers bs) ≡ true → evolution_fits clock s rs c bs ≡ true →
+  pub evolve_shows : (clock left : Rational) (rs : List Rate) (c : Cond) (bs : List Branch) → (rate_numbers rs && branch_numbers bs) ≡ true → evolution_fits clock s rs c bs ≡ true →
       shows_fractions (here clock s left (Stmt-F.Evolve rs c bs)) ≡ true
   evolve_shows clock left rs c bs n h =
       let k = rates_in rs s in
       let b = end_moment s k c in
-      let ns = and_parts (all_rates rs) (branch_numbers bs) n in
+      let ns = and_parts (rate_numbers rs) (branch_numbers bs) n in
       let four = and_parts (rates_fit s rs && domain_fits s k c && guards_fit s k bs) (due_fits clock b) h in
       let three = and_parts (rates_fit s rs && domain_fits s k c) (guards_fit s k bs) four.0 in
       let two = and_parts (rates_fit s rs) (domain_fits s k c) three.0 in

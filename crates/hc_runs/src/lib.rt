@@ -2,5 +2,7 @@
 #![tactic(auto)]
 
 mod laws;
+mod numbers;
 
 pub use laws::{delay_laws, fraction_laws, meeting_laws, run_laws};
+pub use numbers::read_numbers;
