@@ -1,7 +1,7 @@
 //! Copies of plain statements.
 
 ghost use Rattle.std.specs.Prelude.{◌≡◌, IsTrue, IfOk};
-ghost use Rattle.hc_term.specs.Plain.{is_plain, are_plain};
+ghost use Rattle.hc_plain.specs.Plain.{is_plain, are_plain};
 
 use hc_list::List;
 use hc_term::{Expr, Io, Stmt};

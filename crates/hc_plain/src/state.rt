@@ -4,11 +4,11 @@ ghost use Rattle.std.specs.Prelude.{◌≡◌, ℕ, ◌<◌, length, ◌↔◌, 
 ghost use Rattle.hc_term.specs.declared.model.Mark.TheVariants.{Going};
 ghost use Rattle.hc_rational.specs.Words.{fits, greater, is_positive};
 ghost use Rattle.hc_term.specs.Process.{bound, is_due, wants};
-ghost use Rattle.hc_term.specs.Silent.{silent, Did, Unfit as TooLarge, due_fits};
+ghost use Rattle.hc_term.specs.Silent.{silent, Did, Unfit as DoesNotFit, due_fits};
 ghost use Rattle.hc_term.specs.Offers.{post};
-ghost use Rattle.hc_term.specs.Posts.{gift, wishes, bound_fits};
+ghost use Rattle.hc_term.specs.Posts.{sent_on, receives_on, bound_fits};
 ghost use Rattle.hc_term.specs.Communication.{sent, received, moved};
-ghost use Rattle.hc_term.specs.Plain.{are_plain};
+ghost use Rattle.hc_plain.specs.Plain.{are_plain};
 
 use hc_frac::Frac;
 use hc_term::{Expr, Io, Mark, ProcessState, Stmt, Unfit};
@@ -56,9 +56,9 @@ pub(crate) fn wants_step(state: &ProcessState) -> bool
 }
 
 /// The value that the process offers to send on the channel.
-pub(crate) fn gift_of(state: &ProcessState, clock: Frac, channel: u32) -> Option<Frac>
+pub(crate) fn offer_sent_on(state: &ProcessState, clock: Frac, channel: u32) -> Option<Frac>
     requires { IsTrue (are_plain state.now.todo) }
-    ensures { result ≡ gift channel (post clock state.now).offers }
+    ensures { result ≡ sent_on channel (post clock state.now).offers }
 {
     let Mark::Arrived { .. } = state.mark else {
         return None;
@@ -78,9 +78,9 @@ pub(crate) fn gift_of(state: &ProcessState, clock: Frac, channel: u32) -> Option
 }
 
 /// Whether the process offers to receive on the channel.
-pub(crate) fn is_wishing(state: &ProcessState, clock: Frac, channel: u32) -> bool
+pub(crate) fn is_receiving(state: &ProcessState, clock: Frac, channel: u32) -> bool
     requires { IsTrue (are_plain state.now.todo) }
-    ensures { result ≡ wishes channel (post clock state.now).offers }
+    ensures { result ≡ receives_on channel (post clock state.now).offers }
 {
     let Mark::Arrived { .. } = state.mark else {
         return false;
@@ -112,7 +112,7 @@ pub(crate) fn step_on(state: &mut ProcessState, clock: Frac) -> Result<(), Unfit
     requires going { state.old.mark ≡ Going }
     requires some { 0 < length state.old.todo }
     ensures taken { OnOk result ((seed p : ℕ) → silent seed p clock state.old ≡ Did None state.new) }
-    ensures unfit { OnErr result ((seed p : ℕ) → silent seed p clock state.old ≡ TooLarge) }
+    ensures unfit { OnErr result ((seed p : ℕ) → silent seed p clock state.old ≡ DoesNotFit) }
     ensures kept { OnErr result (state.new ≡ state.old) }
     ensures plain { IsTrue (are_plain state.new.todo) }
 {

@@ -1,8 +1,8 @@
 -- What a delay leaves of a process has fractions alone: what the process shows moves, and the working values of that motion fit.
-use Rattle.std.proofs.Common.{◌≡◌, refl, sym, ap, subst, ◌∙◌, ℕ, zero, suc, Bool, true, false, ◌&&◌, ◌||◌, if◌then◌else◌, nat_le, List, [], ◌∷◌, map, length, replicate, slice_set, slice_index_or, Option, Some, None, ◌⊎◌, inl, inr, arith}
+use Rattle.std.proofs.Common.{◌≡◌, refl, sym, ap, subst, ◌∙◌, ℕ, zero, suc, Bool, true, false, ◌&&◌, ◌||◌, if◌then◌else◌, List, [], ◌∷◌, map, length, replicate, slice_set, slice_index_or, Option, Some, None, ◌⊎◌, inl, inr, arith}
 use Rattle.std.specs.List.{list_all}
 use Rattle.std.proofs.lemmas.List.{length-replicate}
-use Rattle.std.proofs.lemmas.Bool.{false≢true, and_parts, and_from, leb-true}
+use Rattle.std.proofs.lemmas.Bool.{and_parts, and_from}
 use Rattle.hc_rational.specs.Words.{Rational, zero_ℚ, ◌+ℚ◌, ◌-ℚ◌, ◌*ℚ◌, ◌≤ℚ◌, fits, greater}
 use Rattle.hc_rational.proofs.OrderLaws.{≤ℚ_antisymm}
 use Rattle.hc_rational.proofs.RankLaws.{greater_is}
@@ -20,16 +20,14 @@ use Rattle.hc_term.specs.Value.{Store, val}
 use Rattle.hc_term.specs.Motion.{Rates, with_rates, rates_in, value_after, after}
 use Rattle.hc_term.specs.EndMoment.{fits_if}
 use Rattle.hc_term.specs.Process.{Layer, bound_here, bound, is_due}
-use Rattle.hc_term.specs.Offers.{moving_of, moving_here, offers_here, post}
+use Rattle.hc_term.specs.Offers.{moving_of, moving_here, post}
 use Rattle.hc_term.specs.Communication.{moved_store, left_after, moved}
 use Rattle.hc_term.specs.Posts.{is_empty, bound_fits, moving_fits, offer_fits, post_fits}
-use Rattle.hc_term.specs.Profile.{are_rates, is_moving_domain, is_rate, all_apart, same_variable, sends_affine, pattern_of, ios_in}
 use Rattle.hc_cross.specs.Laws.{IsWithin}
-use Rattle.hc_term.specs.Moved.{less_by, moving_after, offer_after, moved_post}
-use Rattle.hc_runs.specs.Laws.{in_profile, keeps_profile}
+use Rattle.hc_term.specs.Moved.{less_by, moving_after, offer_after, offers_after, moved_post}
+use Rattle.hc_runs.specs.Laws.{keeps_profile}
 use Rattle.hc_runs.proofs.Basics.{length-set}
 use Rattle.hc_runs.proofs.Bounds.{minus_none}
-use Rattle.hc_runs.proofs.Evolving.{plain_offer, plain_offers}
 use Rattle.hc_runs.proofs.Moving.{posts_move}
 use Rattle.hc_runs.specs.Fractions.{is_moving_fraction, is_offer_fraction, shows_fractions}
 use Rattle.hc_runs.proofs.ShownFit.{shows, set_fits}
@@ -112,28 +110,11 @@ offers_land d (o ∷ os) h k =
     let new = and_parts (offer_fits d o) (list_all (offer_fits d) os) k in
     and_from (is_offer_fraction (offer_after d o)) (list_all is_offer_fraction (map (offer_after d) os)) (offer_lands d o old.0 new.0) (offers_land d os old.1 new.1)
 
--- an evolution has a rate
-some_moving : (s : Store) (rs : List Rate) → nat_le 1 (length rs) ≡ true → is_empty (moving_of s rs) ≡ false
-some_moving s [] h = absurd (omega (arith, leb-true 1 0 h))
-some_moving s (r ∷ rs) h = refl
-
-either : (a b : Bool) → a ≡ false → (a || b) ≡ true → b ≡ true
-either true b h k = absurd (false≢true (sym h))
-either false b h k = k
-
-offers_here-land : (d : Rational) (s : Store) (b : Option Rational) (l : Layer) → in_profile (length s) l ≡ true → list_all is_offer_fraction (offers_here s b l) ≡ true →
-    (is_empty (moving_here s l) || list_all (offer_fits d) (offers_here s b l)) ≡ true → list_all is_offer_fraction (map (offer_after d) (offers_here s b l)) ≡ true
-offers_here-land d s b (Stmt-F.Evolve rs c bs) p h k =
-    let n = length s in
-    let pattern = pattern_of n rs in
-    let ruled = and_parts (are_rates n pattern rs) (is_moving_domain n pattern c) (and_parts (are_rates n pattern rs && is_moving_domain n pattern c) (list_all (sends_affine pattern) (ios_in bs)) p).0 in
-    let rated = and_parts (nat_le 1 (length rs) && all_apart same_variable rs) (list_all (is_rate n pattern) rs) ruled.0 in
-    let some = some_moving s rs (and_parts (nat_le 1 (length rs)) (all_apart same_variable rs) rated.0).0 in
-    let os = offers_here s b (Stmt-F.Evolve rs c bs) in
-    offers_land d os h (either (is_empty (moving_of s rs)) (list_all (offer_fits d) os) some k)
-offers_here-land d s b (Stmt-F.Io io) p h k = ap (λ (o : Offer). is_offer_fraction o && true) (sym (plain_offer s d io)) ∙ h
-offers_here-land d s b (Stmt-F.Choice bs) p h k = ap (list_all is_offer_fraction) (sym (plain_offers s d bs)) ∙ h
-offers_here-land d s b _ p h k = refl
+-- offers move only where something evolves
+offers_after-land : (d : Rational) (none : Bool) (os : List Offer) → list_all is_offer_fraction os ≡ true → (none || list_all (offer_fits d) os) ≡ true →
+    list_all is_offer_fraction (if none then os else map (offer_after d) os) ≡ true
+offers_after-land d true os h k = h
+offers_after-land d false os h k = offers_land d os h k
 
 kept_due : (z : Bool) (due : Option Rational) → fits_if due ≡ true → fits_if (if z then None else due) ≡ true
 kept_due true due h = refl
@@ -143,17 +124,17 @@ kept_offers : (z : Bool) (os : List Offer) → list_all is_offer_fraction os ≡
 kept_offers true os h = refl
 kept_offers false os h = h
 
-post_lands : (d : Rational) (p : Post) → shows_fractions p ≡ true → post_fits d p ≡ true → list_all is_offer_fraction (map (offer_after d) p.offers) ≡ true →
-    shows_fractions (moved_post d p) ≡ true
-post_lands d p h k o =
+post_lands : (d : Rational) (p : Post) → shows_fractions p ≡ true → post_fits d p ≡ true → shows_fractions (moved_post d p) ≡ true
+post_lands d p h k =
     let three = and_parts (fits_if p.bound && fits_if p.due && list_all is_moving_fraction p.moving) (list_all is_offer_fraction p.offers) h in
     let two = and_parts (fits_if p.bound && fits_if p.due) (list_all is_moving_fraction p.moving) three.0 in
     let one = and_parts (fits_if p.bound) (fits_if p.due) two.0 in
     let works = and_parts (list_all (moving_fits d) p.moving && (is_empty p.moving || list_all (offer_fits d) p.offers)) (bound_fits d p.bound) k in
     let moves = and_parts (list_all (moving_fits d) p.moving) (is_empty p.moving || list_all (offer_fits d) p.offers) works.0 in
     let z = is_due (less_by d p.bound) in
-    shows (less_by d p.bound) (if z then None else p.due) (map (moving_after d) p.moving) (if z then [] else map (offer_after d) p.offers) (less_fits d p.bound works.1)
-    (kept_due z p.due one.1) (moving_lands d p.moving two.1 moves.0) (kept_offers z (map (offer_after d) p.offers) o)
+    let offers = offers_after-land d (is_empty p.moving) p.offers three.1 moves.1 in
+    shows (less_by d p.bound) (if z then None else p.due) (map (moving_after d) p.moving) (if z then [] else offers_after d p) (less_fits d p.bound works.1)
+    (kept_due z p.due one.1) (moving_lands d p.moving two.1 moves.0) (kept_offers z (offers_after d p) offers)
 
 moved_by_parts : (clock d : Rational) (todo : List Stmt) (store : Store) (choices : ℕ) (mark : Mark) → let q = with_parts todo store choices mark in
     keeps_profile q ≡ true → zero_ℚ ≤ℚ d → IsWithin d (bound q) → post_fits d (post clock q) ≡ true → Fractions clock q → Fractions (clock +ℚ d) (moved d q)
@@ -166,12 +147,10 @@ moved_by_parts clock d (head ∷ rest) store choices (Arrived left) p k w f h =
     let o = post clock q in
     let works = and_parts (list_all (moving_fits d) o.moving && (is_empty o.moving || list_all (offer_fits d) o.offers)) (bound_fits d o.bound) f in
     let moves = and_parts (list_all (moving_fits d) o.moving) (is_empty o.moving || list_all (offer_fits d) o.offers) works.0 in
-    let offers = (and_parts (fits_if o.bound && fits_if o.due && list_all is_moving_fraction o.moving) (list_all is_offer_fraction o.offers) h.shown).1 in
     record {
       stored = store_fits store d l h.stored moves.0;
       marked = left_fits d store left l k w h.marked works.1;
-      shown = ap shows_fractions (posts_move clock d q p k w)
-          ∙ post_lands d o h.shown f (offers_here-land d store (bound_here store left l) l p offers moves.1);
+      shown = ap shows_fractions (posts_move clock d q p k w) ∙ post_lands d o h.shown f;
     }
 
 pub moved_fractions : (clock d : Rational) (q : ProcessState) → keeps_profile q ≡ true → zero_ℚ ≤ℚ d → IsWithin d (bound q) → post_fits d (post clock q) ≡ true →

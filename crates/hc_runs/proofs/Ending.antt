@@ -1,5 +1,5 @@
--- The end moment of an evolution of the profile: a delay takes away from it, and it isn't past. Only here is the domain asked to be a conjunction.
-use Rattle.std.proofs.Common.{◌≡◌, refl, ◌∙◌, IsTrue, true, List, length, ◌&&◌, Option, Some, None}
+-- The end moment of an evolution of the profile: a delay takes away from it, and it isn't past.
+use Rattle.std.proofs.Common.{◌≡◌, refl, ◌∙◌, IsTrue, true, List, length, Option, Some, None}
 use Rattle.std.specs.Prelude.{MatchOption}
 use Rattle.std.proofs.lemmas.Bool.{and_parts}
 use Rattle.hc_rational.specs.Words.{Rational, zero_ℚ, ◌≤ℚ◌}
@@ -8,12 +8,12 @@ use Rattle.hc_term.specs.declared.stmt.Rate.{Rate}
 use Rattle.hc_term.specs.Value.{Store}
 use Rattle.hc_term.specs.Motion.{Rates, rates_in, after}
 use Rattle.hc_term.specs.EndMoment.{EndsAt, Endless, end_moment, is_domain}
-use Rattle.hc_term.specs.Profile.{is_cond, is_conjunction, is_moving_domain, pattern_of}
+use Rattle.hc_term.specs.Profile.{is_cond, is_moving_domain, pattern_of}
 use Rattle.hc_term.specs.Moved.{less_by}
 use Rattle.hc_cross.specs.Laws.{IsWithin}
 use Rattle.hc_cross.specs.Laws as cross
-use Rattle.hc_cross.proofs.Turning.{right}
-use Rattle.hc_cross.proofs.Delays.{bound_after}
+use Rattle.hc_cross.proofs.EndsRight.{right}
+use Rattle.hc_cross.proofs.Delays.{end_after}
 use Rattle.hc_runs.proofs.Alike.{same_domain}
 use Rattle.hc_runs.proofs.Rated.{length-rates_in, alike}
 
@@ -34,10 +34,9 @@ pub ending : (s : Store) (rs : List Rate) (c : Cond) → is_moving_domain (lengt
 ending s rs c h =
     let n = length s in
     let r = rates_in rs s in
-    let parts = and_parts (is_cond n c && is_conjunction c) (is_domain (pattern_of n rs) c) h in
-    let joins = (and_parts (is_cond n c) (is_conjunction c) parts.0).1 in
+    let parts = and_parts (is_cond n c) (is_domain (pattern_of n rs) c) h in
     let domain : IsTrue (is_domain r c) = same_domain r (pattern_of n rs) (alike rs s) c ∙ parts.1 in
     record {
-      later = λ d k w. bound_after c s r d (length-rates_in rs s) domain joins k w ∙ same_rest d (end_moment s r c);
-      not_past = not_past_by c s r (end_moment s r c) (right c s r (length-rates_in rs s) domain joins);
+      later = λ d k w. end_after c s r d (length-rates_in rs s) domain k w ∙ same_rest d (end_moment s r c);
+      not_past = not_past_by c s r (end_moment s r c) (right c s r (length-rates_in rs s) domain);
     }

@@ -1,10 +1,10 @@
 -- An evolution of the profile in a delay: its rates stay, its variables move by them, its offers along their lines, and its
 -- bound is the old one less the delay.
-use Rattle.std.proofs.Common.{◌≡◌, refl, sym, ap, ap₂, ◌∙◌, IsTrue, ℕ, true, false, not, ◌&&◌, List, [], ◌∷◌, map, length, nat_le, nat_lt}
+use Rattle.std.proofs.Common.{◌≡◌, refl, ap, ap₂, ◌∙◌, IsTrue, ℕ, true, false, not, ◌&&◌, List, [], ◌∷◌, map, length, nat_le, nat_lt, arith}
 use Rattle.std.specs.List.{list_all}
-use Rattle.std.proofs.lemmas.Bool.{not-true, and_parts, and_from}
-use Rattle.hc_rational.specs.Words.{Rational, zero_ℚ, ◌+ℚ◌, ◌*ℚ◌}
-use Rattle.hc_rational.proofs.FieldLaws.{+ℚ-zero, zero-*ℚ}
+use Rattle.std.proofs.lemmas.Bool.{not-true, and_parts, and_from, leb-true}
+use Rattle.hc_limits.specs.Limits.{most_nodes}
+use Rattle.hc_rational.specs.Words.{Rational}
 use Rattle.hc_term.specs.declared.expr.Expr.{Expr}
 use Rattle.hc_term.specs.declared.expr.Cond.{Cond}
 use Rattle.hc_term.specs.declared.form.Form.{Form}
@@ -15,34 +15,20 @@ use Rattle.hc_term.specs.declared.stmt.Branch.{Branch, out-Branch}
 use Rattle.hc_term.specs.declared.post.Offer.{Offer}
 use Rattle.hc_term.specs.declared.post.Offer.TheVariants as offer
 use Rattle.hc_term.specs.Value.{Store, val}
-use Rattle.hc_term.specs.Motion.{Rates, rates_in, after, line, form}
+use Rattle.hc_term.specs.Motion.{Rates, rates_in, after, form}
 use Rattle.hc_term.specs.Offers.{moving_of, offer_of, offers_of}
+use Rattle.hc_term.specs.Posts.{is_empty}
 use Rattle.hc_term.specs.Profile.{nodes, reach, is_expr, all_apart, same_variable, pattern_of, is_rate, are_rates, sends_affine, is_moving_domain, is_evolution, ios_in}
 use Rattle.hc_term.specs.Moved.{moving_after, offer_after}
-use Rattle.hc_runs.proofs.Level.{level}
 use Rattle.hc_runs.proofs.Alike.{same_form, unmoved}
 use Rattle.hc_runs.proofs.Later.{length-after, at_later, slope_later, value_stays}
 use Rattle.hc_runs.proofs.Rated.{below, AllStay, stand, rates_stay, moving_moves, length-rates_in, alike}
 use Rattle.hc_runs.proofs.Ending.{Ending, ending}
 
--- ---- plain offers
-
-no_way : (a m d : Rational) → m ≡ zero_ℚ → a +ℚ m *ℚ d ≡ a
-no_way a m d h = ap (λ z. a +ℚ z *ℚ d) h ∙ ap (λ z. a +ℚ z) (zero-*ℚ d) ∙ +ℚ-zero a
+-- ---- offers along their lines
 
 same_send : (c : ℕ) (a b m n : Rational) → a ≡ b → m ≡ n → offer.Send c a m ≡ offer.Send c b n
 same_send c a b m n h k = cc
-
-pub plain_offer : (s : Store) (d : Rational) (io : Io) → offer_of s [] io ≡ offer_after d (offer_of s [] io)
-plain_offer s d (Send c e) =
-    same_send c _ _ _ _ (sym (no_way (line s [] e).at (line s [] e).slope d (level s e))) refl
-plain_offer s d (Receive c x) = refl
-
-pub plain_offers : (s : Store) (d : Rational) (bs : List Branch) → offers_of s [] bs ≡ map (offer_after d) (offers_of s [] bs)
-plain_offers s d [] = refl
-plain_offers s d (b ∷ bs) = ap₂ (λ (o : Offer) (os : List Offer). o ∷ os) (plain_offer s d (out-Branch b).io) (plain_offers s d bs)
-
--- ---- offers along their lines
 
 module _ (s : Store) (r pattern : Rates) (d : Rational) (paired : length r ≡ length s) (same : (e : Expr) → form r e ≡ form pattern e) where
   offer_moves : (io : Io) → sends_affine pattern io ≡ true → offer_of (after s r d) r io ≡ offer_after d (offer_of s r io)
@@ -74,7 +60,7 @@ module _ (n : ℕ) (pattern : Rates) where
         let parts = and_parts (nat_lt q.variable n && is_expr n e) (not (form pattern e).moves) h in
         let still : (form r e).moves ≡ false = ap (λ (f : Form). f.moves) (same e) ∙ not-true (form pattern e).moves parts.1 in
         let ruled = (and_parts (nat_lt q.variable n) (is_expr n e) parts.0).1 in
-        let plain = (and_parts (nat_le (nodes e) 200 && nat_le (reach e) n) (form [] e).affine ruled).1 in
+        let plain = (and_parts (nat_le (nodes e) most_nodes && nat_le (reach e) n) (form [] e).affine ruled).1 in
         value_stays s r d paired e (ap (λ (f : Form). f.affine) (unmoved r e still) ∙ plain) still
 
     all_stay : (rs : List Rate) → list_all (is_rate n pattern) rs ≡ true → AllStay s (after s r d) rs
@@ -85,8 +71,14 @@ module _ (n : ℕ) (pattern : Rates) where
 
 -- ---- the evolution
 
+-- an evolution has a rate
+some_moving : (s : Store) (rs : List Rate) → nat_le 1 (length rs) ≡ true → is_empty (moving_of s rs) ≡ false
+some_moving s [] h = absurd (omega (arith, leb-true 1 0 h))
+some_moving s (r ∷ rs) h = refl
+
 pub record Evolving (s : Store) (rs : List Rate) (c : Cond) (bs : List Branch) (d : Rational) : Type 0 where
   pub rates : rates_in rs (after s (rates_in rs s) d) ≡ rates_in rs s
+  pub some : is_empty (moving_of s rs) ≡ false
   pub variables : moving_of (after s (rates_in rs s) d) rs ≡ map (moving_after d) (moving_of s rs)
   pub offers : offers_of (after s (rates_in rs s) d) (rates_in rs s) bs ≡ map (offer_after d) (offers_of s (rates_in rs s) bs)
   pub ends : Ending s (rates_in rs s) c
@@ -101,11 +93,12 @@ evolving s rs c bs d h =
     let parts = and_parts (are_rates n p rs && is_moving_domain n p c) (list_all (sends_affine p) (ios_in bs)) h in
     let ruled = and_parts (are_rates n p rs) (is_moving_domain n p c) parts.0 in
     let rated = and_parts (nat_le 1 (length rs) && all_apart same_variable rs) (list_all (is_rate n p) rs) ruled.0 in
-    let apart = (and_parts (nat_le 1 (length rs)) (all_apart same_variable rs) rated.0).1 in
+    let two = and_parts (nat_le 1 (length rs)) (all_apart same_variable rs) rated.0 in
     let stay = all_stay n p s r d paired same rs rated.1 in
     record {
       rates = rates_stay s (after s r d) rs (length-after s r d) stay;
-      variables = moving_moves s r d rs paired (stand s rs (all_below n p rs rated.1) apart) stay;
+      some = some_moving s rs two.0;
+      variables = moving_moves s r d rs paired (stand s rs (all_below n p rs rated.1) two.1) stay;
       offers = offers_move s r p d paired same bs parts.1;
       ends = ending s rs c ruled.1;
     }

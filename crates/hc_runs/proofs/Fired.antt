@@ -19,11 +19,10 @@ post_changed clock f (r ∷ qs) (suc p) q at = ap (λ (l : List Post). post cloc
 
 -- what two places held before doesn't matter where both are set anew
 set_both : (ps : List Post) (s r : ℕ) (g x y : Post) → s ≢ r →
-    slice_set (slice_set (slice_set (slice_set ps r g) s g) r x) s y ≡ slice_set (slice_set ps r x) s y
+    slice_set (slice_set (slice_set (slice_set ps s g) r g) r x) s y ≡ slice_set (slice_set ps r x) s y
 set_both ps s r g x y apart =
-    ap (λ (l : List Post). slice_set l s y) (set-set_other (slice_set ps r g) s r g x apart)
-    ∙ set_twice (slice_set (slice_set ps r g) r x) s g y
-    ∙ ap (λ (l : List Post). slice_set l s y) (set_twice ps r g x)
+    ap (λ (l : List Post). slice_set l s y) (set_twice (slice_set ps s g) r g x ∙ set-set_other ps s r g x apart)
+    ∙ set_twice (slice_set ps r x) s g y
 
 pub posts_meet : PostsMeet
 posts_meet c m giver taker apart gives takes =

@@ -3,6 +3,7 @@ use Rattle.std.proofs.Common.{◌≡◌, refl, sym, ap, ap₂, ◌∙◌, ℕ, �
 use Rattle.std.specs.List.{list_all, list_any}
 use Rattle.std.proofs.lemmas.Bool.{false≢true, and_parts, not-true, eqb-true, eq-eqb}
 use Rattle.std.proofs.lemmas.List.Sums.{sum_by-cons}
+use Rattle.hc_limits.specs.Limits.{most_guards}
 use Rattle.hc_rational.specs.Words.{Rational}
 use Rattle.hc_term.specs.declared.stmt.Io.{Io}
 use Rattle.hc_term.specs.declared.stmt.Io.TheVariants.{Send, Receive}
@@ -121,9 +122,9 @@ module _ (channels n : ℕ) where
   guards : (s : Store) (r : Rates) (bs : List Branch) → are_guards channels n (ios_in bs) ≡ true → Guarded channels (offers_of s r bs)
   guards s r bs h =
       let ios = ios_in bs in
-      let parts = and_parts (nat_le (length ios) 32 && list_all (is_io channels n) ios) (all_apart is_same_io ios) h in
+      let parts = and_parts (nat_le (length ios) most_guards && list_all (is_io channels n) ios) (all_apart is_same_io ios) h in
       record {
-        in_range = ios_in_range s r bs (and_parts (nat_le (length ios) 32) (list_all (is_io channels n) ios) parts.0).1;
+        in_range = ios_in_range s r bs (and_parts (nat_le (length ios) most_guards) (list_all (is_io channels n) ios) parts.0).1;
         once = λ sending c. omega (arith, count-offers sending c s r bs, once_on sending c ios parts.1);
       }
 

@@ -1,5 +1,4 @@
 pub mod Basics
-pub mod Level
 pub mod Alike
 pub mod Later
 pub mod Rated
@@ -17,6 +16,7 @@ pub mod Parts
 pub mod Waking
 pub mod Guarded
 pub mod Paired
+pub mod Level
 pub mod ValuesFit
 pub mod Numbered
 pub mod ShownFit

@@ -15,12 +15,13 @@ use Rattle.hc_term.specs.Value.{Store}
 use Rattle.hc_term.specs.Motion.{Rates, rates_in, after}
 use Rattle.hc_term.specs.EndMoment.{end_moment}
 use Rattle.hc_term.specs.Process.{Layer, bound_here, bound, is_due}
-use Rattle.hc_term.specs.Offers.{moving_here, offers_of, offers_here, due_of, post}
+use Rattle.hc_term.specs.Posts.{is_empty}
+use Rattle.hc_term.specs.Offers.{moving_of, moving_here, offers_of, offers_here, due_of, post}
 use Rattle.hc_term.specs.Communication.{moved_store, left_after, moved}
 use Rattle.hc_cross.specs.Laws.{IsWithin}
-use Rattle.hc_term.specs.Moved.{less_by, moving_after, offer_after, moved_post}
+use Rattle.hc_term.specs.Moved.{less_by, moving_after, offer_after, offers_after, moved_post}
 use Rattle.hc_runs.specs.Laws.{in_profile, keeps_profile, PostsMove}
-use Rattle.hc_runs.proofs.Evolving.{evolving, plain_offer, plain_offers}
+use Rattle.hc_runs.proofs.Evolving.{evolving}
 use Rattle.hc_runs.proofs.Bounds.{wait_after, due_moves, not_due_before}
 
 -- what a process shows that has arrived at a statement
@@ -76,30 +77,32 @@ module _ (d : Rational) (from_zero : zero_ℚ ≤ℚ d) (s : Store) (left : Rati
   nothing true = refl
   nothing false = refl
 
-  unless_due : (b b₁ : Bool) (os ns : List Offer) → (b₁ ≡ false → b ≡ false) → ns ≡ map (offer_after d) os →
-      (if b₁ then [] else ns) ≡ (if b₁ then [] else map (offer_after d) (if b then [] else os))
-  unless_due b true os ns h k = refl
-  unless_due b false os ns h k = k ∙ ap (λ (c : Bool). map (offer_after d) (if c then [] else os)) (sym (h refl))
+  unless_due : (b b₁ none : Bool) (os ns : List Offer) → (b₁ ≡ false → b ≡ false) → none ≡ false → ns ≡ map (offer_after d) os →
+      (if b₁ then [] else ns) ≡ (if b₁ then [] else (if none then (if b then [] else os) else map (offer_after d) (if b then [] else os)))
+  unless_due b true none os ns h i k = refl
+  unless_due b false none os ns h i k =
+      k ∙ ap (λ (c : Bool). map (offer_after d) (if c then [] else os)) (sym (h refl))
+      ∙ ap (λ (c : Bool). if c then (if b then [] else os) else map (offer_after d) (if b then [] else os)) (sym i)
 
-  offers_move_here : (l : Layer) → in_profile (length s) l ≡ true → IsWithin d (bound_here s left l) →
+  offers_move_here : (clock : Rational) (l : Layer) → in_profile (length s) l ≡ true → IsWithin d (bound_here s left l) →
       offers_here (moved_store s d l) (less_by d (bound_here s left l)) l ≡
-      (if is_due (less_by d (bound_here s left l)) then [] else map (offer_after d) (offers_here s (bound_here s left l) l))
-  offers_move_here (Stmt-F.Evolve rates domain branches) h w =
+      (if is_due (less_by d (bound_here s left l)) then [] else offers_after d (here clock s left l))
+  offers_move_here clock (Stmt-F.Evolve rates domain branches) h w =
       let e = evolving s rates domain branches d h in
       let b = end_moment s (rates_in rates s) domain in
       let s₁ = after s (rates_in rates s) d in
-      unless_due (is_due b) (is_due (less_by d b)) (offers_of s (rates_in rates s) branches) (offers_of s₁ (rates_in rates s₁) branches)
-      (not_due_before d b from_zero w) (ap (λ (r : Rates). offers_of s₁ r branches) e.rates ∙ e.offers)
-  offers_move_here (Stmt-F.Wait time) h w = nothing (is_due (less_by d (Some (greater zero_ℚ left))))
-  offers_move_here (Stmt-F.Io io) h w = ap (λ (o : Offer). o ∷ []) (plain_offer s d io)
-  offers_move_here (Stmt-F.Choice bs) h w = plain_offers s d bs
-  offers_move_here Stmt-F.Skip h w = refl
-  offers_move_here (Stmt-F.Assign x value) h w = refl
-  offers_move_here (Stmt-F.Log value) h w = refl
-  offers_move_here (Stmt-F.If test first second) h w = refl
-  offers_move_here (Stmt-F.Loop test body) h w = refl
-  offers_move_here (Stmt-F.Pick one other) h w = refl
-  offers_move_here (Stmt-F.Forever body) h w = refl
+      unless_due (is_due b) (is_due (less_by d b)) (is_empty (moving_of s rates)) (offers_of s (rates_in rates s) branches) (offers_of s₁ (rates_in rates s₁) branches)
+      (not_due_before d b from_zero w) e.some (ap (λ (r : Rates). offers_of s₁ r branches) e.rates ∙ e.offers)
+  offers_move_here clock (Stmt-F.Wait time) h w = nothing (is_due (less_by d (Some (greater zero_ℚ left))))
+  offers_move_here clock (Stmt-F.Io io) h w = refl
+  offers_move_here clock (Stmt-F.Choice bs) h w = refl
+  offers_move_here clock Stmt-F.Skip h w = refl
+  offers_move_here clock (Stmt-F.Assign x value) h w = refl
+  offers_move_here clock (Stmt-F.Log value) h w = refl
+  offers_move_here clock (Stmt-F.If test first second) h w = refl
+  offers_move_here clock (Stmt-F.Loop test body) h w = refl
+  offers_move_here clock (Stmt-F.Pick one other) h w = refl
+  offers_move_here clock (Stmt-F.Forever body) h w = refl
 
   -- ---- the post
 
@@ -113,7 +116,7 @@ module _ (d : Rational) (from_zero : zero_ℚ ≤ℚ d) (s : Store) (left : Rati
   here_moves clock l h w =
       let is = bound_moves_here l h w in
       same_post _ _ _ _ _ _ _ _ is (ap (due_of (clock +ℚ d)) is ∙ due_moves clock d (bound_here s left l) from_zero w) (moving_moves_here l h)
-      (ap (λ (b : Option Rational). offers_here (moved_store s d l) b l) is ∙ offers_move_here l h w)
+      (ap (λ (b : Option Rational). offers_here (moved_store s d l) b l) is ∙ offers_move_here clock l h w)
 
 -- ---- a process
 

@@ -3,6 +3,7 @@ use Rattle.std.proofs.Common.{◌≡◌, refl, sym, ap, ◌∙◌, subst, ℕ, z
 use Rattle.std.specs.List.{list_all}
 use Rattle.std.proofs.lemmas.Bool.{and_parts, and_from}
 use Rattle.std.proofs.lemmas.List.{length-replicate}
+use Rattle.hc_limits.specs.Limits.{most_variables}
 use Rattle.hc_rational.specs.Words.{Rational, zero_ℚ}
 use Rattle.hc_term.specs.declared.stmt.Stmt.{Stmt, out-Stmt}
 use Rattle.hc_term.specs.declared.stmt.Stmt.TheOpen.{Stmt-F}
@@ -35,7 +36,7 @@ pub record IsPart (channels : ℕ) (b : Process) (q : ProcessState) : Type 0 whe
 pub part_ruled : (channels : ℕ) (b : Process) (q : ProcessState) → IsPart channels b q → Ruled channels (length b.variables) q
 part_ruled channels b q k =
     let n = length b.variables in
-    let body = (and_parts (nat_le n 64 && nat_le 1 (length b.body)) (list_all (is_stmt channels n) b.body) k.body).1 in
+    let body = (and_parts (nat_le n most_variables && nat_le 1 (length b.body)) (list_all (is_stmt channels n) b.body) k.body).1 in
     record { sized = k.left.sized; ruled = k.left.made.passed (is_stmt channels n) (ruled_inside channels n) body }
 
 module _ (channels : ℕ) where

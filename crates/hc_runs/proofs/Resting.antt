@@ -5,10 +5,10 @@ use Rattle.std.specs.List.{list_all}
 use Rattle.std.specs.declared.cmp.Ordering.{Ordering}
 use Rattle.std.specs.declared.cmp.Ordering.TheVariants as side
 use Rattle.std.proofs.lemmas.Bool.{false≢true, and_parts}
-use Rattle.hc_rational.specs.Words.{Rational, zero_ℚ, ◌+ℚ◌, ◌-ℚ◌, ◌≤ℚ◌, rank}
+use Rattle.hc_rational.specs.Words.{Rational, zero_ℚ, ◌+ℚ◌, ◌-ℚ◌, ◌≤ℚ◌, rank, earlier}
 use Rattle.hc_rational.proofs.FieldLaws.{+ℚ_comm, -ℚ-+ℚ}
 use Rattle.hc_rational.proofs.OrderLaws.{≤ℚ_refl}
-use Rattle.hc_rational.proofs.RankLaws.{rank-same}
+use Rattle.hc_rational.proofs.RankLaws.{rank-same, lesser_is}
 use Rattle.hc_term.specs.declared.stmt.Stmt.{Stmt}
 use Rattle.hc_term.specs.declared.post.Post.{Post}
 use Rattle.hc_term.specs.declared.model.Mark.{Mark}
@@ -16,7 +16,6 @@ use Rattle.hc_term.specs.declared.model.Mark.TheVariants.{Going, Arrived}
 use Rattle.hc_term.specs.declared.model.Meeting.{Meeting}
 use Rattle.hc_term.specs.declared.model.ProcessState.{ProcessState}
 use Rattle.hc_term.specs.Value.{Store}
-use Rattle.hc_term.specs.EndMoment.{earlier, earlier_by}
 use Rattle.hc_term.specs.Process.{bound, is_due, wants}
 use Rattle.hc_term.specs.Offers.{post}
 use Rattle.hc_term.specs.Communication.{moved}
@@ -63,15 +62,10 @@ bound_wants d q h e =
 
 -- ---- the least bound
 
-earlier_by_one : (o : Ordering) (d e b : Rational) → earlier_by o d e ≡ Some b → (Some d ≡ Some b) ⊎ (Some e ≡ Some b)
-earlier_by_one side.Greater d e b h = inr h
-earlier_by_one side.Less d e b h = inl h
-earlier_by_one side.Equal d e b h = inl h
-
 earlier_one : (x y : Option Rational) (b : Rational) → earlier x y ≡ Some b → (x ≡ Some b) ⊎ (y ≡ Some b)
 earlier_one None y b h = inr h
 earlier_one (Some d) None b h = inl h
-earlier_one (Some d) (Some e) b h = earlier_by_one (rank d e) d e b h
+earlier_one (Some d) (Some e) b h = ⊎_elim (λ is. inl (ap Some (sym is) ∙ h)) (λ is. inr (ap Some (sym is) ∙ h)) (lesser_is d e).one
 
 not_wanting : (b : Bool) → b ≡ true → not b ≡ true → ⊥
 not_wanting true h k = false≢true k

@@ -20,8 +20,8 @@ use Rattle.hc_term.specs.EndMoment.{fits_if}
 use Rattle.hc_term.specs.Silent.{Idle, Did}
 use Rattle.hc_term.specs.Offers.{post}
 use Rattle.hc_term.specs.Communication.{sent, received, moved}
-use Rattle.hc_term.specs.Posts.{Took, first_of, gift_of, gift, post_fits}
-use Rattle.hc_term.specs.Step.{opening, opening_of, posts, passing, silent_by, silent_of, changed, GivesAt, StepTo, Leads}
+use Rattle.hc_term.specs.Posts.{Took, first_of, offer_sent_on, sent_on, post_fits}
+use Rattle.hc_term.specs.Step.{opening, opening_of, posts, passing, silent_by, silent_of, changed, SendsAt, StepTo, Leads}
 use Rattle.hc_cross.specs.Laws.{IsWithin}
 use Rattle.hc_term.specs.Together.{is_within}
 use Rattle.hc_runs.specs.Laws.{keeps_profile}
@@ -72,29 +72,29 @@ changed_all clock f h (q ∷ qs) (suc p) k = (k.0, changed_all clock f h qs p k.
 
 -- ---- the value of a meeting
 
-gift_of-fits : (c : ℕ) (v : Rational) (o : Offer) (b : Bool) (at slope : Rational) → (fits at && fits slope) ≡ true → (if b then Some at else None) ≡ Some v → fits v ≡ true
-gift_of-fits c v o true at slope h e = let same : at ≡ v = cc in ap fits (sym same) ∙ (and_parts (fits at) (fits slope) h).0
-gift_of-fits c v o false at slope h e = cc
+sent_on_by : (c : ℕ) (v : Rational) (o : Offer) (b : Bool) (at slope : Rational) → (fits at && fits slope) ≡ true → (if b then Some at else None) ≡ Some v → fits v ≡ true
+sent_on_by c v o true at slope h e = let same : at ≡ v = cc in ap fits (sym same) ∙ (and_parts (fits at) (fits slope) h).0
+sent_on_by c v o false at slope h e = cc
 
-one_gift : (c : ℕ) (v : Rational) (o : Offer) → is_offer_fraction o ≡ true → gift_of c o ≡ Some v → fits v ≡ true
-one_gift c v (offer.Send channel at slope) h e = gift_of-fits c v (offer.Send channel at slope) (channel == c) at slope h e
-one_gift c v (offer.Receive channel) h e = cc
+one_sent : (c : ℕ) (v : Rational) (o : Offer) → is_offer_fraction o ≡ true → offer_sent_on c o ≡ Some v → fits v ≡ true
+one_sent c v (offer.Send channel at slope) h e = sent_on_by c v (offer.Send channel at slope) (channel == c) at slope h e
+one_sent c v (offer.Receive channel) h e = cc
 
-first_gift : (v : Rational) (x y : Option Rational) → (x ≡ Some v → fits v ≡ true) → (y ≡ Some v → fits v ≡ true) → first_of x y ≡ Some v → fits v ≡ true
-first_gift v (Some w) y h k e = h e
-first_gift v None y h k e = k e
+first_sent : (v : Rational) (x y : Option Rational) → (x ≡ Some v → fits v ≡ true) → (y ≡ Some v → fits v ≡ true) → first_of x y ≡ Some v → fits v ≡ true
+first_sent v (Some w) y h k e = h e
+first_sent v None y h k e = k e
 
-gift_fits : (c : ℕ) (v : Rational) (os : List Offer) → list_all is_offer_fraction os ≡ true → gift c os ≡ Some v → fits v ≡ true
-gift_fits c v [] h e = cc
-gift_fits c v (o ∷ os) h e =
+sent_on-fits : (c : ℕ) (v : Rational) (os : List Offer) → list_all is_offer_fraction os ≡ true → sent_on c os ≡ Some v → fits v ≡ true
+sent_on-fits c v [] h e = cc
+sent_on-fits c v (o ∷ os) h e =
     let parts = and_parts (is_offer_fraction o) (list_all is_offer_fraction os) h in
-    first_gift v (gift_of c o) (gift c os) (one_gift c v o parts.0) (gift_fits c v os parts.1) e
+    first_sent v (offer_sent_on c o) (sent_on c os) (one_sent c v o parts.0) (sent_on-fits c v os parts.1) e
 
-given_fits : (clock : Rational) (c : ℕ) (v : Rational) (qs : List ProcessState) (k : ℕ) → AllFit clock qs → GivesAt c v (slice_get (map (post clock) qs) k) → fits v ≡ true
+given_fits : (clock : Rational) (c : ℕ) (v : Rational) (qs : List ProcessState) (k : ℕ) → AllFit clock qs → SendsAt c v (slice_get (map (post clock) qs) k) → fits v ≡ true
 given_fits clock c v [] k h g = absurd g
 given_fits clock c v (q ∷ qs) zero h g =
     let p = post clock q in
-    gift_fits c v p.offers (and_parts (fits_if p.bound && fits_if p.due && list_all is_moving_fraction p.moving) (list_all is_offer_fraction p.offers) h.0.shown).1 g
+    sent_on-fits c v p.offers (and_parts (fits_if p.bound && fits_if p.due && list_all is_moving_fraction p.moving) (list_all is_offer_fraction p.offers) h.0.shown).1 g
 given_fits clock c v (q ∷ qs) (suc k) h g = given_fits clock c v qs k h.1 g
 
 -- ---- a delay

@@ -8,7 +8,7 @@ use Rattle.hc_rational.proofs.RankLaws.{rank_is, lesser_is}
 use Rattle.hc_term.specs.declared.task.Task.{Task}
 use Rattle.hc_term.specs.declared.post.Post.{Post}
 use Rattle.hc_term.specs.declared.model.Configuration.{Configuration}
-use Rattle.hc_term.specs.Posts.{NoBound, TooLarge, Took, least_bound, is_timed, length_of_delay, delay_fits, passing_below}
+use Rattle.hc_term.specs.Posts.{NoBound, Overflows, Took, least_bound, is_timed, length_of_delay, delay_fits, passing_below}
 use Rattle.hc_term.specs.Step.{posts, passing}
 use Rattle.hc_term.proofs.Turns.{passing-quiet}
 use Rattle.hc_cross.specs.Laws.{IsWithin}
@@ -28,7 +28,7 @@ module _ (clock horizon : Rational) (ps : List Post) where
     pub within : IsWithin d (least_bound ps)
     pub fitting : delay_fits d clock ps ≡ true
 
-  taken : (d by : Rational) (b : Bool) → delay_fits d clock ps ≡ b → (if b then Took d else TooLarge) ≡ Took by → (d ≡ by) × (delay_fits d clock ps ≡ true)
+  taken : (d by : Rational) (b : Bool) → delay_fits d clock ps ≡ b → (if b then Took d else Overflows) ≡ Took by → (d ≡ by) × (delay_fits d clock ps ≡ true)
   taken d by true h e = (cc, h)
   taken d by false h e = cc
 

@@ -1,12 +1,11 @@
 -- Where the numbers of an expression and the values of the variables fit, and its working values, so do its value, its line and an end moment.
-use Rattle.std.proofs.Common.{rules, ◌≡◌, refl, sym, ap, ap₂, subst, ◌∙◌, ℕ, zero, suc, Bool, true, false, ◌&&◌, if◌then◌else◌, [], ◌∷◌, slice_index_or, Option, Some, None}
+use Rattle.std.proofs.Common.{rules, ◌≡◌, refl, sym, ap, ap₂, subst, ◌∙◌, ℕ, zero, suc, Bool, true, false, ◌&&◌, if◌then◌else◌, [], ◌∷◌, slice_index_or, Option, Some, None, ⊎_elim}
 use Rattle.std.specs.List.{list_all}
-use Rattle.std.specs.declared.cmp.Ordering.{Ordering}
-use Rattle.std.specs.declared.cmp.Ordering.TheVariants as side
 use Rattle.std.proofs.lemmas.Bool.{and_parts}
 use denote.Hole.Carrier
-use Rattle.hc_rational.specs.Words.{Rational, zero_ℚ, neg_ℚ, rank, fits}
+use Rattle.hc_rational.specs.Words.{Rational, zero_ℚ, neg_ℚ, earlier, fits}
 use Rattle.hc_rational.proofs.FitsLaws.{zero_fits, neg_fits}
+use Rattle.hc_rational.proofs.RankLaws.{lesser_is}
 use Rattle.hc_term.specs.declared.expr.Op.{Op}
 use Rattle.hc_term.specs.declared.expr.Comparison.{Comparison}
 use Rattle.hc_term.specs.declared.expr.Expr.{Expr, roll-Expr}
@@ -23,7 +22,7 @@ use Rattle.hc_term.specs.declared.expr.Cond.TheVariants as test
 use Rattle.hc_term.specs.declared.expr.Cond.TheViews as tested
 use Rattle.hc_term.specs.Value.{Store, val, applied, Work, work, work_layer, is_fitting}
 use Rattle.hc_term.specs.Motion.{Rates, rate_of, slope_by, Line, line, line_layer}
-use Rattle.hc_term.specs.EndMoment.{crossing, fits_if, gap_of, earlier, earlier_by, kept, fails, first_failing, end_moment, domain_fits}
+use Rattle.hc_term.specs.EndMoment.{crossing, fits_if, gap_of, kept, fails, first_failing, end_moment, domain_fits}
 use Rattle.hc_runs.specs.Fractions.{numbers}
 
 -- ---- one equation for each form
@@ -229,15 +228,10 @@ module _ (s : Store) (r : Rates) where
   fits-Or : (c a b : Cond) → c ≡ tested.Or a b → domain_fits s r c ≡ (domain_fits s r a && domain_fits s r b)
   fits-Or c a b e = search (rules, cond.the_lemmas)
 
-  earlier_by-fits : (o : Ordering) (d e : Rational) → fits d ≡ true → fits e ≡ true → fits_if (earlier_by o d e) ≡ true
-  earlier_by-fits side.Less d e h k = h
-  earlier_by-fits side.Equal d e h k = h
-  earlier_by-fits side.Greater d e h k = k
-
   earlier-fits : (x y : Option Rational) → fits_if x ≡ true → fits_if y ≡ true → fits_if (earlier x y) ≡ true
   earlier-fits None y h k = k
   earlier-fits (Some d) None h k = h
-  earlier-fits (Some d) (Some e) h k = earlier_by-fits (rank d e) d e h k
+  earlier-fits (Some d) (Some e) h k = ⊎_elim (λ is. ap fits is ∙ h) (λ is. ap fits is ∙ k) (lesser_is d e).one
 
   kept_by : (t : Rational) (b : Bool) → fits t ≡ true → fits_if (if b then Some t else None) ≡ true
   kept_by t true h = h

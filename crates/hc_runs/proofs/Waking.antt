@@ -3,6 +3,7 @@
 use Rattle.std.proofs.Common.{◌≡◌, refl, sym, ap, ◌∙◌, subst, ℕ, zero, suc, ◌-◌, Bool, true, false, ◌&&◌, if◌then◌else◌, nat_le, List, [], ◌∷◌, map, length, min, slice_get, Option, Some, None, inl, inr, arith}
 use Rattle.std.specs.List.{list_all}
 use Rattle.std.proofs.lemmas.Bool.{false≢true, and_parts, leb-true}
+use Rattle.hc_limits.specs.Limits.{most_silent_steps, most_variables}
 use Rattle.hc_term.specs.declared.stmt.Stmt.{Stmt}
 use Rattle.hc_term.specs.declared.system.Process.{Process}
 use Rattle.hc_term.specs.declared.model.Mark.TheVariants.{Going}
@@ -16,7 +17,7 @@ use Rattle.hc_term.specs.declared.run.Step.TheVariants.{Comm}
 use Rattle.hc_term.specs.declared.model.ProcessState.{ProcessState}
 use Rattle.hc_term.specs.declared.model.Meeting.{Meeting}
 use Rattle.hc_term.specs.declared.model.Configuration.{Configuration}
-use Rattle.hc_term.specs.Posts.{Passing, NoBound, AtHorizon, TooLarge, Took}
+use Rattle.hc_term.specs.Posts.{Passing, NoBound, AtHorizon, Overflows, Took}
 use Rattle.hc_term.specs.Step.{opening_of, ready, rests, passing, passing_by, passing_quiet, replaced, met, delayed}
 use Rattle.hc_term.specs.Canonical.{wanting_from}
 use Rattle.hc_term.specs.Event.{Event, progress, silent_items, stop_of_passing, stop_after, last_part_by, meetings_by, meetings, second_part, event_of}
@@ -50,7 +51,7 @@ module _ (t : Task) where
   last_part-wakes n c (Some (Took d)) k h e f =
       let in_profile = all_in_profile (length t.system.channels) t.system.processes c.processes k in
       after_delay n (delayed d c) (rests (delayed d c).processes) refl (λ r. delays_end t c d in_profile e r) f
-  last_part-wakes n c (Some TooLarge) k h e f = cc
+  last_part-wakes n c (Some Overflows) k h e f = cc
   last_part-wakes n c (Some NoBound) k h e f = cc
   last_part-wakes n c (Some AtHorizon) k h e f = cc
   last_part-wakes n c None k h e f =
@@ -77,7 +78,7 @@ module _ (t : Task) where
 
   event-wakes : (room p : ℕ) (c : Configuration) (q : ProcessState) → Kept t c → slice_get c.processes p ≡ Some q → Wakes (event_of room t p c (Some q))
   event-wakes room p c q k at =
-      let n = min 4096 room in
+      let n = min most_silent_steps room in
       let g = progress n t.seed p c.clock q in
       let s = progress-stretches t p n c q at in
       let mid = replaced c p g.next in
@@ -104,8 +105,8 @@ first_wants channels [] h k = absurd (omega (arith, leb-true 1 0 h))
 first_wants channels (b ∷ bodies) h k =
     let n = length b.variables in
     let ruled = (and_parts (is_process channels b) (list_all (is_process channels) bodies) k).0 in
-    let few = (and_parts (nat_le n 64 && nat_le 1 (length b.body)) (list_all (is_stmt channels n) b.body) ruled).0 in
-    let some = (and_parts (nat_le n 64) (nat_le 1 (length b.body)) few).1 in
+    let few = (and_parts (nat_le n most_variables && nat_le 1 (length b.body)) (list_all (is_stmt channels n) b.body) ruled).0 in
+    let some = (and_parts (nat_le n most_variables) (nat_le 1 (length b.body)) few).1 in
     ap (λ (w : Bool). if w then Some 0 else wanting_from 1 (map opening_of bodies)) (body_wants b.body (opening_of b).store some)
 
 pub opening_goes_on : OpeningGoesOn

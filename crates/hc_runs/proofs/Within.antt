@@ -1,15 +1,12 @@
 -- A delay is at least 0 and at most each bound, since it is the least of them or less; so every post moves.
 use Rattle.std.proofs.Common.{◌≡◌, refl, sym, ap₂, subst, true, List, [], ◌∷◌, map, Option, Some, None, ⊎_elim}
 use Rattle.std.specs.List.{list_all}
-use Rattle.std.specs.declared.cmp.Ordering.{Ordering}
-use Rattle.std.specs.declared.cmp.Ordering.TheVariants as side
 use Rattle.std.proofs.lemmas.Bool.{and_parts, and_from}
-use Rattle.hc_rational.specs.Words.{Rational, zero_ℚ, ◌+ℚ◌, ◌-ℚ◌, ◌≤ℚ◌, rank}
-use Rattle.hc_rational.proofs.OrderLaws.{≤ℚ_trans, ≤ℚ-from_<ℚ, ≤ℚ-from_≡, ≤ℚ--ℚ, <ℚ--ℚ}
-use Rattle.hc_rational.proofs.RankLaws.{rank_is}
+use Rattle.hc_rational.specs.Words.{Rational, zero_ℚ, ◌+ℚ◌, ◌-ℚ◌, ◌≤ℚ◌, lesser, earlier}
+use Rattle.hc_rational.proofs.OrderLaws.{≤ℚ_trans, ≤ℚ-from_<ℚ, ≤ℚ--ℚ, <ℚ--ℚ}
+use Rattle.hc_rational.proofs.RankLaws.{lesser_is}
 use Rattle.hc_term.specs.declared.post.Post.{Post}
 use Rattle.hc_term.specs.declared.model.ProcessState.{ProcessState}
-use Rattle.hc_term.specs.EndMoment.{earlier, earlier_by}
 use Rattle.hc_term.specs.Offers.{post}
 use Rattle.hc_term.specs.Communication.{moved}
 use Rattle.hc_term.specs.Posts.{least_bound}
@@ -25,25 +22,16 @@ use Rattle.hc_runs.proofs.Resting.{shown_bound}
 
 -- ---- the least bound
 
-earlier_by-within : (o : Ordering) (d e t : Rational) → rank d e ≡ o → IsWithin t (earlier_by o d e) → (t ≤ℚ d) × (t ≤ℚ e)
-earlier_by-within side.Less d e t h w = (w, ≤ℚ_trans t d e w (≤ℚ-from_<ℚ d e ((rank_is d e).less.0 h)))
-earlier_by-within side.Equal d e t h w = (w, ≤ℚ_trans t d e w (≤ℚ-from_≡ d e ((rank_is d e).equal.0 h)))
-earlier_by-within side.Greater d e t h w = (≤ℚ_trans t e d w (≤ℚ-from_<ℚ e d ((rank_is d e).greater.0 h)), w)
-
 earlier-within : (x y : Option Rational) (t : Rational) → IsWithin t (earlier x y) → IsWithin t x × IsWithin t y
 earlier-within None y t w = (tt, w)
 earlier-within (Some d) None t w = (w, tt)
-earlier-within (Some d) (Some e) t w = earlier_by-within (rank d e) d e t refl w
-
-within_earlier_by : (o : Ordering) (d e t : Rational) → t ≤ℚ d → t ≤ℚ e → IsWithin t (earlier_by o d e)
-within_earlier_by side.Less d e t h k = h
-within_earlier_by side.Equal d e t h k = h
-within_earlier_by side.Greater d e t h k = k
+earlier-within (Some d) (Some e) t w = let is = lesser_is d e in (≤ℚ_trans t (lesser d e) d w is.first, ≤ℚ_trans t (lesser d e) e w is.second)
 
 within_earlier : (x y : Option Rational) (t : Rational) → IsWithin t x → IsWithin t y → IsWithin t (earlier x y)
 within_earlier None y t h k = k
 within_earlier (Some d) None t h k = h
-within_earlier (Some d) (Some e) t h k = within_earlier_by (rank d e) d e t h k
+within_earlier (Some d) (Some e) t h k =
+    ⊎_elim (λ is. subst (λ z. t ≤ℚ z) (sym is) h) (λ is. subst (λ z. t ≤ℚ z) (sym is) k) (lesser_is d e).one
 
 -- ---- all processes
 

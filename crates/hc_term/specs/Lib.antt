@@ -15,7 +15,7 @@ pub mod Step
 pub mod Stop
 pub mod Canonical
 pub mod Event
+pub mod Ends
 pub mod TraceText
 pub mod Laws
 pub mod Given
-pub mod Plain

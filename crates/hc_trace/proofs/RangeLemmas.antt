@@ -16,7 +16,7 @@ use Rattle.hc_term.specs.declared.model.ProcessState.{ProcessState}
 use Rattle.hc_term.specs.declared.model.Meeting.{Meeting}
 use Rattle.hc_term.specs.declared.model.Configuration.{Configuration}
 use Rattle.hc_term.specs.Silent.{Outcome, Idle, Unfit, Did}
-use Rattle.hc_term.specs.Posts.{Passing, NoBound, AtHorizon, TooLarge, Took, sender, receiver, meeting_by, meeting_on, meeting_from, first_of}
+use Rattle.hc_term.specs.Posts.{Passing, NoBound, AtHorizon, Overflows, Took, sender, receiver, meeting_by, meeting_on, meeting_from, first_of}
 use Rattle.hc_term.specs.Step.{Leads, StepTo, opening, opening_of, posts, ready, silent_by, silent_of, passing_quiet, changed, replaced, met, delayed, all_ended}
 use Rattle.hc_term.specs.Communication.{sent, received, moved}
 use Rattle.hc_term.specs.Stop.{Stops, StopsAt}
@@ -144,7 +144,7 @@ ended_in_range t false = tt
 
 passing_turn : (t : Task) (c : Configuration) (what : Passing) → HasAll t c → TurnInRange t (turn_passing c what)
 passing_turn t c (Took d) h = (tt, delayed_has_all t c d h)
-passing_turn t c TooLarge h = tt
+passing_turn t c Overflows h = tt
 passing_turn t c AtHorizon h = tt
 passing_turn t c NoBound h = ended_in_range t (all_ended c.processes)
 

@@ -1,5 +1,5 @@
 use Rattle.std.proofs.Common.{◌≡◌, take, drop, true}
-use Rattle.hc_term.specs.Plain.{are_plain}
+use Rattle.hc_plain.specs.Plain.{are_plain}
 use Rattle.hc_plain.proofs.copies.copy_of.Given as goal
 
 abbrev pub invariant-loop-stmt : goal.invariant-loop-stmt
