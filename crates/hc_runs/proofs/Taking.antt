@@ -12,6 +12,7 @@ use Rattle.hc_term.specs.Posts.{NoBound, Overflows, Took, least_bound, is_timed,
 use Rattle.hc_term.specs.Step.{posts, passing}
 use Rattle.hc_term.proofs.Turns.{passing-quiet}
 use Rattle.hc_cross.specs.Laws.{IsWithin}
+use Rattle.hc_runs.specs.Laws.{DelayFits}
 
 lasts_by : (most : Rational) (b : Option Rational) → (b ≡ Some (length_of_delay most b)) ⊎ (length_of_delay most b ≡ most)
 lasts_by most None = inr refl
@@ -48,3 +49,6 @@ module _ (clock horizon : Rational) (ps : List Post) where
 
 pub taking : (t : Task) (c : Configuration) (d : Rational) → passing t c ≡ Some (Took d) → Taking c.clock t.horizon (posts c) d
 taking t c d e = taking_by c.clock t.horizon (posts c) (is_timed (posts c)) d (passing-quiet t c (Took d) e).what
+
+pub delay_is_fit : DelayFits
+delay_is_fit t c d e = (taking t c d e).fitting

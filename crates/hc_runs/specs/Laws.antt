@@ -1,5 +1,5 @@
 -- What holds of delays, of all that a run reaches, and of its numbers.
-use Rattle.std.specs.Prelude.{◌≡◌, ◌≢◌, ℕ, Bool, true, List, [], ◌∷◌, map, length, IsTrue, slice_get, slice_set, Option, Some, None, ◌⊎◌}
+use Rattle.std.specs.Prelude.{◌≡◌, ◌≢◌, ◌<◌, ℕ, Bool, true, List, [], ◌∷◌, map, length, IsTrue, slice_get, slice_set, Option, Some, None, ◌⊎◌}
 use Rattle.std.specs.List.{list_all}
 use Rattle.hc_rational.specs.Words.{Rational, zero_ℚ, ◌+ℚ◌, ◌≤ℚ◌, fits}
 use Rattle.hc_term.specs.declared.stmt.Stmt.{Stmt, out-Stmt}
@@ -12,8 +12,8 @@ use Rattle.hc_term.specs.declared.model.Configuration.{Configuration}
 use Rattle.hc_term.specs.Process.{Layer, bound}
 use Rattle.hc_term.specs.Offers.{post}
 use Rattle.hc_term.specs.Communication.{sent, received, moved}
-use Rattle.hc_term.specs.Posts.{Passing, NoBound, AtHorizon, Took}
-use Rattle.hc_term.specs.Step.{opening, posts, rests, passing, met, delayed, Leads}
+use Rattle.hc_term.specs.Posts.{Passing, NoBound, AtHorizon, Took, sent_on, receives_on, delay_fits}
+use Rattle.hc_term.specs.Step.{opening, posts, ready, rests, passing, met, delayed, Leads}
 use Rattle.hc_term.specs.Canonical.{wanting_from}
 use Rattle.hc_term.specs.Event.{event}
 use Rattle.hc_term.specs.Profile.{is_evolution, ios_in}
@@ -58,15 +58,20 @@ DelaysEnd =
     (t : Task) (c : Configuration) (d : Rational) → IsTrue (list_all keeps_profile c.processes) → passing t c ≡ Some (Took d) →
     IsTrue (rests (delayed d c).processes) → IsOver (passing t (delayed d c))
 
+-- The working values of the delay that a configuration takes fit.
+abbrev pub DelayFits : Type 0
+DelayFits = (t : Task) (c : Configuration) (d : Rational) → passing t c ≡ Some (Took d) → IsTrue (delay_fits d c.clock (posts c))
+
 -- ---- meetings
 
 -- After a meeting the two that met show what their new states show, and all others what they showed.
 abbrev pub PostsMeet : Type 0
 PostsMeet =
-    (c : Configuration) (m : Meeting) (giver taker : ProcessState) → m.sender ≢ m.receiver →
-    slice_get c.processes m.sender ≡ Some giver → slice_get c.processes m.receiver ≡ Some taker →
-    let gave = post c.clock (sent m.channel giver) in let took = post c.clock (received m.channel m.value taker) in
-    posts (met m c) ≡ slice_set (slice_set (fired m (posts c)) m.receiver took) m.sender gave
+    (c : Configuration) (m : Meeting) (sender receiver : ProcessState) → m.sender ≢ m.receiver →
+    slice_get c.processes m.sender ≡ Some sender → slice_get c.processes m.receiver ≡ Some receiver →
+    let after_sending = post c.clock (sent m.channel sender) in
+    let after_receiving = post c.clock (received m.channel m.value receiver) in
+    posts (met m c) ≡ slice_set (slice_set (fired m (posts c)) m.sender after_sending) m.receiver after_receiving
 
 -- ---- runs from the opening
 
@@ -95,6 +100,22 @@ EventsGoOn =
 abbrev pub PostsArePaired : Type 0
 PostsArePaired =
     (t : Task) (items : List Item) (c : Configuration) → Leads t (opening t) items c → ArePaired (length t.system.channels) (posts c)
+
+-- the meeting joins two processes, of which one offers to send the value on the channel and the other to receive there
+pub record Joins (m : Meeting) (c : Configuration) : Type 0 where
+  pub sender : ProcessState
+  pub receiver : ProcessState
+  pub differ : m.sender ≢ m.receiver
+  pub sender_is : slice_get c.processes m.sender ≡ Some sender
+  pub receiver_is : slice_get c.processes m.receiver ≡ Some receiver
+  pub sends : sent_on m.channel (post c.clock sender).offers ≡ Some m.value
+  pub receives : receives_on m.channel (post c.clock receiver).offers ≡ true
+
+-- in what a run reaches, the meeting on the ready channel joins two processes
+abbrev pub ReadyJoins : Type 0
+ReadyJoins =
+    (t : Task) (items : List Item) (c : Configuration) (m : Meeting) → Leads t (opening t) items c → ready t c ≡ Some m →
+    (m.channel < length t.system.channels) × Joins m c
 
 -- ---- fractions
 

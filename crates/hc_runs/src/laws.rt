@@ -1,12 +1,13 @@
 //! Laws of delays, of meetings, of runs, and of fractions.
 
-ghost use Rattle.hc_runs.specs.Laws.{PostsMove, AllPostsMove, DelaysEnd, PostsMeet, RunsKeepRules, OpeningGoesOn, EventsGoOn, PostsArePaired, RunsKeepFractions, ItemsAreFractions};
+ghost use Rattle.hc_runs.specs.Laws.{PostsMove, AllPostsMove, DelaysEnd, DelayFits, PostsMeet, RunsKeepRules, OpeningGoesOn, EventsGoOn, PostsArePaired, ReadyJoins, RunsKeepFractions, ItemsAreFractions};
 
 /// What holds of every delay. There is nothing to run: the clauses are the laws.
 pub fn delay_laws()
     ensures posts { PostsMove }
     ensures all_posts { AllPostsMove }
     ensures ends { DelaysEnd }
+    ensures fits { DelayFits }
 {}
 
 /// What holds of every meeting of two processes. There is nothing to run: the clause is the law.
@@ -20,6 +21,7 @@ pub fn run_laws()
     ensures opening { OpeningGoesOn }
     ensures events { EventsGoOn }
     ensures posts { PostsArePaired }
+    ensures meetings { ReadyJoins }
 {}
 
 /// What holds of the numbers of every run of a task. There is nothing to run: the clauses are the laws.
