@@ -12,17 +12,6 @@ ghost use Rattle.hc_plain.specs.Plain.{are_plain};
 
 use hc_frac::Frac;
 use hc_term::{Expr, Io, Mark, ProcessState, Stmt, Unfit};
-use std::cmp::Ordering;
-
-fn greater_of(left: Frac, right: Frac) -> Frac
-    ensures { result ≡ greater left right }
-{
-    match left.compare(right) {
-        Ordering::Less => right,
-        Ordering::Equal => right,
-        Ordering::Greater => left,
-    }
-}
 
 /// How long the process may stay where it is, or `None` where time doesn't move it on.
 pub(crate) fn bound_of(state: &ProcessState) -> Option<Frac>
@@ -33,7 +22,7 @@ pub(crate) fn bound_of(state: &ProcessState) -> Option<Frac>
         return None;
     };
     match state.todo.as_slice() {
-        [Stmt::Wait { .. }, ..] => Some(greater_of(Frac::zero(), left)),
+        [Stmt::Wait { .. }, ..] => Some(Frac::zero().greater(left)),
         _ => None,
     }
 }
@@ -132,7 +121,7 @@ pub(crate) fn step_on(state: &mut ProcessState, clock: Frac) -> Result<(), Unfit
             time: Expr::Number(time),
         } => {
             let left = *time;
-            if !is_due_fitting(clock, greater_of(Frac::zero(), left)) {
+            if !is_due_fitting(clock, Frac::zero().greater(left)) {
                 return Err(Unfit);
             }
             state.mark = Mark::Arrived { left };

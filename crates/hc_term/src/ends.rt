@@ -1,6 +1,6 @@
 //! The two ends of a channel: the process that sends on it, and the one that receives.
 
-ghost use Rattle.std.specs.Prelude.{◌≡◌, ◌≤◌, ◌||◌, length};
+ghost use Rattle.std.specs.Prelude.{◌≡◌, ◌≤◌, ◌<◌, ◌||◌, length, IfSome};
 ghost use Rattle.std.specs.List.{list_any};
 ghost use Rattle.hc_term.specs.declared.stmt.Branch.{out-Branch};
 ghost use Rattle.hc_term.specs.Rules.{is_on, uses, is_user};
@@ -17,7 +17,9 @@ pub struct Ends {
 
 /// The processes that send and receive on the channel with this number, anywhere in their bodies.
 pub fn channel_ends(system: &System, channel: u32) -> Ends
-    ensures { result ≡ ends_of system.now channel }
+    ensures ends { result ≡ ends_of system.now channel }
+    ensures sender { IfSome result.sender (λ p. p < length system.now.processes) }
+    ensures receiver { IfSome result.receiver (λ p. p < length system.now.processes) }
 {
     let processes = system.processes.as_slice();
     Ends {
@@ -29,7 +31,8 @@ pub fn channel_ends(system: &System, channel: u32) -> Ends
 /// The first process that sends, or receives, on the channel.
 fn first_user(sending: bool, channel: u64, processes: &[Process]) -> Option<u32>
     requires { length processes.now ≤ 64 }
-    ensures { result ≡ user_from sending channel 0 processes.now }
+    ensures first { result ≡ user_from sending channel 0 processes.now }
+    ensures within { IfSome result (λ p. p < length processes.now) }
 {
     let mut number: u32 = 0;
     for process in processes {
