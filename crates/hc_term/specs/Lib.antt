@@ -10,6 +10,7 @@ pub mod Offers
 pub mod Communication
 pub mod Posts
 pub mod Moved
+pub mod Together
 pub mod Step
 pub mod Stop
 pub mod Canonical

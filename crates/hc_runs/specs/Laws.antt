@@ -1,0 +1,131 @@
+-- What holds of delays, of all that a run reaches, and of its numbers.
+use Rattle.std.specs.Prelude.{◌≡◌, ◌≢◌, ◌<◌, ℕ, Bool, true, List, [], ◌∷◌, map, length, IsTrue, slice_get, slice_set, Option, Some, None, ◌⊎◌}
+use Rattle.std.specs.List.{list_all}
+use Rattle.hc_rational.specs.Words.{Rational, zero_ℚ, ◌+ℚ◌, ◌≤ℚ◌, fits}
+use Rattle.hc_term.specs.declared.stmt.Stmt.{Stmt, out-Stmt}
+use Rattle.hc_term.specs.declared.stmt.Stmt.TheOpen.{Stmt-F}
+use Rattle.hc_term.specs.declared.task.Task.{Task}
+use Rattle.hc_term.specs.declared.run.Item.{Item}
+use Rattle.hc_term.specs.declared.model.ProcessState.{ProcessState}
+use Rattle.hc_term.specs.declared.model.Meeting.{Meeting}
+use Rattle.hc_term.specs.declared.model.Configuration.{Configuration}
+use Rattle.hc_term.specs.Process.{Layer, bound}
+use Rattle.hc_term.specs.Offers.{post}
+use Rattle.hc_term.specs.Communication.{sent, received, moved}
+use Rattle.hc_term.specs.Posts.{Passing, NoBound, AtHorizon, Took, sent_on, receives_on, delay_fits}
+use Rattle.hc_term.specs.Step.{opening, posts, ready, rests, passing, met, delayed, Leads}
+use Rattle.hc_term.specs.Canonical.{wanting_from}
+use Rattle.hc_term.specs.Event.{event}
+use Rattle.hc_term.specs.Profile.{is_evolution, ios_in}
+use Rattle.hc_term.specs.Rules.{is_stmt}
+use Rattle.hc_term.specs.Moved.{moved_post, fired}
+use Rattle.hc_term.specs.Together.{is_within, ArePaired}
+use Rattle.hc_cross.specs.Laws.{IsWithin}
+use Rattle.hc_runs.specs.Fractions.{task_numbers, has_fractions, is_item_fraction}
+
+-- whether a statement of a process with n variables keeps the profile, if it evolves
+abbrev pub in_profile : ℕ → Layer → Bool
+in_profile n (Stmt-F.Evolve rates domain branches) = is_evolution n rates domain (ios_in branches)
+in_profile n _ = true
+
+abbrev pub heads_in_profile : ℕ → List Stmt → Bool
+heads_in_profile n [] = true
+heads_in_profile n (head ∷ rest) = in_profile n (out-Stmt head)
+
+-- whether the evolution at which a process may stand keeps the profile
+abbrev pub keeps_profile : ProcessState → Bool
+keeps_profile q = heads_in_profile (length q.store) q.todo
+
+-- After a delay that is at most its bound, a process shows what it showed before, moved.
+abbrev pub PostsMove : Type 0
+PostsMove =
+    (clock d : Rational) (q : ProcessState) → IsTrue (keeps_profile q) → zero_ℚ ≤ℚ d → IsWithin d (bound q) →
+    post (clock +ℚ d) (moved d q) ≡ moved_post d (post clock q)
+
+-- The delay that a configuration takes is at least 0 and at most the bound of each process, so that all posts move.
+abbrev pub AllPostsMove : Type 0
+AllPostsMove =
+    (t : Task) (c : Configuration) (d : Rational) → IsTrue (list_all keeps_profile c.processes) → passing t c ≡ Some (Took d) →
+    (zero_ℚ ≤ℚ d) × IsTrue (list_all (λ p. is_within d p.bound) (posts c)) × (posts (delayed d c) ≡ map (moved_post d) (posts c))
+
+-- time does nothing more: nothing waits for it, or the horizon is reached
+abbrev pub IsOver : Option Passing → Type 0
+IsOver o = (o ≡ Some NoBound) ⊎ (o ≡ Some AtHorizon)
+
+-- A delay lasts to the least bound or to the horizon: where no process wants a silent step after it, there is no other delay.
+abbrev pub DelaysEnd : Type 0
+DelaysEnd =
+    (t : Task) (c : Configuration) (d : Rational) → IsTrue (list_all keeps_profile c.processes) → passing t c ≡ Some (Took d) →
+    IsTrue (rests (delayed d c).processes) → IsOver (passing t (delayed d c))
+
+-- The working values of the delay that a configuration takes fit.
+abbrev pub DelayFits : Type 0
+DelayFits = (t : Task) (c : Configuration) (d : Rational) → passing t c ≡ Some (Took d) → IsTrue (delay_fits d c.clock (posts c))
+
+-- ---- meetings
+
+-- After a meeting the two that met show what their new states show, and all others what they showed.
+abbrev pub PostsMeet : Type 0
+PostsMeet =
+    (c : Configuration) (m : Meeting) (sender receiver : ProcessState) → m.sender ≢ m.receiver →
+    slice_get c.processes m.sender ≡ Some sender → slice_get c.processes m.receiver ≡ Some receiver →
+    let after_sending = post c.clock (sent m.channel sender) in
+    let after_receiving = post c.clock (received m.channel m.value receiver) in
+    posts (met m c) ≡ slice_set (slice_set (fired m (posts c)) m.sender after_sending) m.receiver after_receiving
+
+-- ---- runs from the opening
+
+-- whether all that a process still has to do keeps the rules, in a system with so many channels
+abbrev pub is_ruled : ℕ → ProcessState → Bool
+is_ruled channels q = list_all (is_stmt channels (length q.store)) q.todo
+
+-- in what a run reaches, each process keeps the rules, and so the evolution at which it may stand the profile
+abbrev pub RunsKeepRules : Type 0
+RunsKeepRules =
+    (t : Task) (items : List Item) (c : Configuration) → Leads t (opening t) items c →
+    IsTrue (list_all (is_ruled (length t.system.channels)) c.processes) × IsTrue (list_all keeps_profile c.processes)
+
+-- at the opening each process wants a silent step
+abbrev pub OpeningGoesOn : Type 0
+OpeningGoesOn = (t : Task) → wanting_from 0 (opening t).processes ≡ Some 0
+
+-- an event of what a run reaches that sets no stop leaves a process that wants a silent step
+abbrev pub EventsGoOn : Type 0
+EventsGoOn =
+    (room : ℕ) (t : Task) (items : List Item) (p : ℕ) (c : Configuration) (q : ProcessState) → Leads t (opening t) items c →
+    slice_get c.processes p ≡ Some q → let e = event room t p c in
+    e.stop ≡ None → (next : ℕ) × (wanting_from 0 e.end.processes ≡ Some next)
+
+-- in what a run reaches, no channel is offered twice in one direction, nor in both by one process, and no bound is less than 0
+abbrev pub PostsArePaired : Type 0
+PostsArePaired =
+    (t : Task) (items : List Item) (c : Configuration) → Leads t (opening t) items c → ArePaired (length t.system.channels) (posts c)
+
+-- the meeting joins two processes, of which one offers to send the value on the channel and the other to receive there
+pub record Joins (m : Meeting) (c : Configuration) : Type 0 where
+  pub sender : ProcessState
+  pub receiver : ProcessState
+  pub differ : m.sender ≢ m.receiver
+  pub sender_is : slice_get c.processes m.sender ≡ Some sender
+  pub receiver_is : slice_get c.processes m.receiver ≡ Some receiver
+  pub sends : sent_on m.channel (post c.clock sender).offers ≡ Some m.value
+  pub receives : receives_on m.channel (post c.clock receiver).offers ≡ true
+
+-- in what a run reaches, the meeting on the ready channel joins two processes
+abbrev pub ReadyJoins : Type 0
+ReadyJoins =
+    (t : Task) (items : List Item) (c : Configuration) (m : Meeting) → Leads t (opening t) items c → ready t c ≡ Some m →
+    (m.channel < length t.system.channels) × Joins m c
+
+-- ---- fractions
+
+-- where the numbers of a task are fractions, so are the clock and all numbers of what a run reaches
+abbrev pub RunsKeepFractions : Type 0
+RunsKeepFractions =
+    (t : Task) (items : List Item) (c : Configuration) → IsTrue (task_numbers t) → Leads t (opening t) items c →
+    IsTrue (fits c.clock) × IsTrue (list_all (has_fractions c.clock) c.processes)
+
+-- and so are all numbers in the items of the run
+abbrev pub ItemsAreFractions : Type 0
+ItemsAreFractions =
+    (t : Task) (items : List Item) (c : Configuration) → IsTrue (task_numbers t) → Leads t (opening t) items c → IsTrue (list_all is_item_fraction items)
