@@ -1,5 +1,6 @@
 -- What is counted along a source: open items, and the nodes of one outermost expression or condition.
 use Rattle.std.specs.Prelude.{ℕ, ◌+◌, ◌-◌, Bool, true, false, ◌&&◌, if◌then◌else◌, nat_le, Option, Some, None}
+use Rattle.hc_limits.specs.Limits.{most_open_items, most_nodes}
 use Rattle.hc_grammar.specs.Reader.{Reader}
 use Rattle.hc_token.specs.declared.kind.Kind.{Kind}
 use Rattle.hc_token.specs.declared.kind.Kind.TheVariants as k
@@ -49,17 +50,17 @@ after_mark _ n = n
 pub data Flaw : Type 0 where
   name_too_long number_unfit syntax too_deep too_many_nodes : Flaw
 
--- as it stands: a word of more than 64 bytes, a number out of range
+-- as it stands: a word that is too long, a number out of range
 abbrev pub unfit : Kind → Option Flaw
 unfit k.LongWord = Some name_too_long
 unfit k.LargeNumber = Some number_unfit
 unfit _ = None
 
--- in its role: it opens the 65th open item, or is the 201st node
+-- in its role: with it there are more open items, or more nodes, than the limit
 abbrev pub beyond : Role → Counts → Option Flaw
 beyond role n =
-    if opens role && nat_le 64 n.open_items then Some too_deep
-    else (if is_node role && nat_le 200 n.nodes then Some too_many_nodes else None)
+    if opens role && nat_le most_open_items n.open_items then Some too_deep
+    else (if is_node role && nat_le most_nodes n.nodes then Some too_many_nodes else None)
 
 -- the questions at each token of a source
 abbrev pub reader : Reader Token Role Mark Counts Flaw

@@ -1,6 +1,7 @@
 //! The numbers of statements, for those of at most 10,000.
 
 ghost use Rattle.std.specs.Prelude.{◌≡◌, ◌≤◌, sum_by};
+ghost use Rattle.hc_limits.specs.Limits.{most_statements};
 ghost use Rattle.hc_term.specs.Rules.{statements};
 ghost use Rattle.hc_code.specs.Pieces.{branch_statements};
 
@@ -9,7 +10,7 @@ use hc_term::{Branch, Stmt};
 /// One for each statement, with those inside it.
 #[cycle(counts)]
 pub(crate) fn count_one(stmt: &Stmt) -> u32
-    requires { statements stmt.now ≤ 10000 }
+    requires { statements stmt.now ≤ most_statements }
     ensures { result ≡ statements stmt.now }
 {
     match stmt {
@@ -29,7 +30,7 @@ pub(crate) fn count_one(stmt: &Stmt) -> u32
 
 #[cycle(counts)]
 pub(crate) fn count_all(stmts: &[Stmt]) -> u32
-    requires { sum_by statements stmts.now ≤ 10000 }
+    requires { sum_by statements stmts.now ≤ most_statements }
     ensures { result ≡ sum_by statements stmts.now }
 {
     let mut total: u32 = 0;
@@ -41,7 +42,7 @@ pub(crate) fn count_all(stmts: &[Stmt]) -> u32
 
 #[cycle(counts)]
 fn count_branches(branches: &[Branch]) -> u32
-    requires { branch_statements branches.now ≤ 10000 }
+    requires { branch_statements branches.now ≤ most_statements }
     ensures { result ≡ branch_statements branches.now }
 {
     let mut total: u32 = 0;

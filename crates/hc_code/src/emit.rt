@@ -1,6 +1,7 @@
 //! From statements to instructions.
 
 ghost use Rattle.std.specs.Prelude.{◌≡◌, ◌+◌, ◌≤◌, ◌<◌, [], ◌∷◌, ◌++◌, length, IsTrue, IfOk, OnOk};
+ghost use Rattle.hc_limits.specs.Limits.{most_statements};
 ghost use Rattle.hc_term.specs.declared.stmt.Stmt.{out-Stmt};
 ghost use Rattle.hc_term.specs.Rules.{statements, body_statements};
 ghost use Rattle.hc_code.specs.Stands.{Stands, HasOneEach};
@@ -9,6 +10,7 @@ ghost use Rattle.hc_code.specs.Pieces.{all_statements, branch_statements, entry,
 
 use crate::count::{count_all, count_one};
 use crate::{Instr, ProcCode, Way};
+use hc_limits::MOST_STATEMENTS;
 use hc_list::List;
 use hc_term::{Branch, Cond, Io, Process, Rate, Stmt};
 use std::alloc::{AllocError, Global};
@@ -21,7 +23,7 @@ fn ways_of(
     next: u32,
 ) -> Result<List<Way>, AllocError>
     requires low { here ≤ 10001 }
-    requires few { branch_statements branches.now ≤ 10000 }
+    requires few { branch_statements branches.now ≤ most_statements }
     ensures { IfOk result (λ ways. ways ≡ ways_at here next branches.now) }
 {
     let mut ways = List::new(alloc);
@@ -122,7 +124,7 @@ fn put_if(
     no: &[Stmt],
     next: u32,
 ) -> Result<(), AllocError>
-    requires room { length code.old + (1 + all_statements yes.now) ≤ 10000 }
+    requires room { length code.old + (1 + all_statements yes.now) ≤ most_statements }
     ensures put { OnOk result (code.new ≡ code.old ++ Instr.Test test.now (entry (length code.old + 1) next yes.now)
         (entry (length code.old + 1 + all_statements yes.now) next no.now) ∷ []) }
     ensures grown { OnOk result (length code.new ≡ length code.old + 1) }
@@ -147,7 +149,7 @@ fn put_pick(
     right: &[Stmt],
     next: u32,
 ) -> Result<(), AllocError>
-    requires room { length code.old + (1 + all_statements left.now) ≤ 10000 }
+    requires room { length code.old + (1 + all_statements left.now) ≤ most_statements }
     ensures put { OnOk result (code.new ≡ code.old ++ Instr.Pick (entry (length code.old + 1) next left.now)
         (entry (length code.old + 1 + all_statements left.now) next right.now) ∷ []) }
     ensures grown { OnOk result (length code.new ≡ length code.old + 1) }
@@ -165,7 +167,7 @@ fn put_pick(
 
 /// Puts the beginning of a loop without a test behind what is there. Its body comes next, and goes on at the loop.
 fn put_forever(code: &mut List<Instr>, body: &[Stmt]) -> Result<(), AllocError>
-    requires room { length code.old + 1 ≤ 10000 }
+    requires room { length code.old + 1 ≤ most_statements }
     ensures put { OnOk result (code.new ≡ code.old ++ Instr.Again (entry (length code.old + 1) (length code.old) body.now) ∷ []) }
     ensures grown { OnOk result (length code.new ≡ length code.old + 1) }
 {
@@ -186,7 +188,7 @@ fn put_loop(
     body: &[Stmt],
     next: u32,
 ) -> Result<(), AllocError>
-    requires room { length code.old + 1 ≤ 10000 }
+    requires room { length code.old + 1 ≤ most_statements }
     ensures put { OnOk result (code.new ≡ code.old ++ Instr.Test test.now (entry (length code.old + 1) (length code.old) body.now) next ∷ []) }
     ensures grown { OnOk result (length code.new ≡ length code.old + 1) }
 {
@@ -209,7 +211,7 @@ fn put_choice(
     branches: &[Branch],
     next: u32,
 ) -> Result<(), AllocError>
-    requires room { length code.old + (1 + branch_statements branches.now) ≤ 10000 }
+    requires room { length code.old + (1 + branch_statements branches.now) ≤ most_statements }
     ensures put { OnOk result (code.new ≡ code.old ++ Instr.Meet (ways_at (length code.old + 1) next branches.now) ∷ []) }
     ensures grown { OnOk result (length code.new ≡ length code.old + 1) }
 {
@@ -227,7 +229,7 @@ fn put_evolve(
     branches: &[Branch],
     next: u32,
 ) -> Result<(), AllocError>
-    requires room { length code.old + (1 + branch_statements branches.now) ≤ 10000 }
+    requires room { length code.old + (1 + branch_statements branches.now) ≤ most_statements }
     ensures put { OnOk result (code.new ≡ code.old ++ Instr.Evolve rates.now domain.now (ways_at (length code.old + 1) next branches.now) next ∷ []) }
     ensures grown { OnOk result (length code.new ≡ length code.old + 1) }
 {
@@ -264,7 +266,7 @@ fn emit_branches(
     branches: &[Branch],
     next: u32,
 ) -> Result<(), AllocError>
-    requires room { length code.old + branch_statements branches.now ≤ 10000 }
+    requires room { length code.old + branch_statements branches.now ≤ most_statements }
     ensures grown { OnOk result (length code.new ≡ length code.old + branch_statements branches.now) }
     ensures adds { OnOk result (Adds code.old code.new next (entries (length code.old) next branches.now) (bodies branches.now)) }
 {
@@ -277,7 +279,7 @@ fn emit_branches(
 /// Puts the code of one statement behind what is there. What follows the statement begins at the place `next`.
 #[cycle(emits)]
 fn emit_one(alloc: Global, code: &mut List<Instr>, stmt: &Stmt, next: u32) -> Result<(), AllocError>
-    requires room { length code.old + statements stmt.now ≤ 10000 }
+    requires room { length code.old + statements stmt.now ≤ most_statements }
     ensures grown { OnOk result (length code.new ≡ length code.old + statements stmt.now) }
     ensures adds { OnOk result (Adds code.old code.new next (length code.old ∷ []) ((stmt.now ∷ []) ∷ [])) }
 {
@@ -340,13 +342,13 @@ fn emit_all(
     stmts: &[Stmt],
     next: u32,
 ) -> Result<(), AllocError>
-    requires room { length code.old + all_statements stmts.now ≤ 10000 }
+    requires room { length code.old + all_statements stmts.now ≤ most_statements }
     ensures grown { OnOk result (length code.new ≡ length code.old + all_statements stmts.now) }
     ensures adds { OnOk result (Adds code.old code.new next (entry (length code.old) next stmts.now ∷ []) (stmts.now ∷ [])) }
 {
     for (at, stmt) in stmts.iter().enumerate() {
         let behind = code.len() as u32 + count_one(stmt);
-        prove!(behind <= 10_000);
+        prove!(behind <= MOST_STATEMENTS);
         let after = entry_of(behind, next, &stmts[at + 1..]);
         emit_one(alloc, code, stmt, after)?;
     }
@@ -355,7 +357,7 @@ fn emit_all(
 
 /// The code of a process of at most 10,000 statements.
 pub fn compile(alloc: Global, process: &Process) -> Result<ProcCode, AllocError>
-    requires { body_statements process.now ≤ 10000 }
+    requires { body_statements process.now ≤ most_statements }
     ensures stands { IfOk result (λ code. Stands code.instrs process.now.body) }
     ensures one_each { IfOk result (λ code. HasOneEach process.now code.instrs) }
     ensures kept { IfOk result (λ code. KeepsRules process.now.body code.instrs) }

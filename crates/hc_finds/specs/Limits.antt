@@ -1,5 +1,6 @@
 -- What goes beyond the limits: guards of a choice, channels, variables of a process, nodes of an expression.
 use Rattle.std.specs.Prelude.{true, nat_le, nat_lt, List, [], ◌∷◌, ◌++◌, map, length, flat_map}
+use Rattle.hc_limits.specs.Limits.{most_guards, most_channels, most_variables, most_nodes}
 use Rattle.hc_frac.specs.declared.place.Place.{Place}
 use Rattle.hc_ast.specs.Bare.{Word}
 use Rattle.hc_ast.specs.declared.stmt.IoTree.{IoTree}
@@ -58,23 +59,23 @@ outermost_in (rate all earlier r) = of_expr r.value ∷ []
 outermost_in (domain rs p c) = of_cond c ∷ []
 outermost_in (guard rs earlier p i) = of_io i
 
--- a branch behind 32 others of its choice
+-- a branch beyond the limit of guards of its choice
 abbrev pub guards_beyond : Part → List Place
-guards_beyond (guard rs earlier p i) = only_if (nat_le 32 (length earlier)) p
+guards_beyond (guard rs earlier p i) = only_if (nat_le most_guards (length earlier)) p
 guards_beyond x = []
 
--- a part with which there are more than 256 channels, where these stand before
+-- a part with which there are too many channels, where these stand before
 abbrev pub channels_beyond : List Word → Part → List Place
 channels_beyond before x =
-    flat_map (λ c. only_if (nat_lt 256 (length (first_occurrences (before ++ c ∷ [])))) (place_of x)) (channels_in x)
+    flat_map (λ c. only_if (nat_lt most_channels (length (first_occurrences (before ++ c ∷ [])))) (place_of x)) (channels_in x)
 
--- a part with which its process has more than 64 variables, where these stand before
+-- a part with which its process has too many variables, where these stand before
 abbrev pub variables_beyond : List Word → Part → List Place
-variables_beyond before x = only_if (nat_lt 64 (length (first_occurrences (before ++ variables_in x)))) (place_of x)
+variables_beyond before x = only_if (nat_lt most_variables (length (first_occurrences (before ++ variables_in x)))) (place_of x)
 
--- an outermost expression or condition of more than 200 nodes
+-- an outermost expression or condition with too many nodes
 abbrev pub nodes_beyond : Part → List Place
-nodes_beyond x = flat_map (λ o. only_if (nat_lt 200 o.size) o.place) (outermost_in x)
+nodes_beyond x = flat_map (λ o. only_if (nat_lt most_nodes o.size) o.place) (outermost_in x)
 
 -- all four at a part, where these channels and variables stand before
 abbrev pub beyond_at : List Word → List Word → Part → List CheckStop

@@ -1,5 +1,6 @@
 -- The limits as the program counts: from the names that are noted so far.
 use Rattle.std.specs.Prelude.{nat_lt, List, [], ◌∷◌, ◌++◌, map, length, flat_map}
+use Rattle.hc_limits.specs.Limits.{most_channels, most_variables}
 use Rattle.hc_frac.specs.declared.place.Place.{Place}
 use Rattle.indexmap.specs.IndexSet.{insert_all}
 use Rattle.hc_ast.specs.Bare.{Word}
@@ -16,10 +17,10 @@ abbrev pub with_names : List Word → List Word → List Word
 with_names names xs = insert_all same_word names xs
 
 abbrev pub channels_over : List Word → Part → List Place
-channels_over names x = flat_map (λ c. only_if (nat_lt 256 (length (with_names names (c ∷ [])))) (place_of x)) (channels_in x)
+channels_over names x = flat_map (λ c. only_if (nat_lt most_channels (length (with_names names (c ∷ [])))) (place_of x)) (channels_in x)
 
 abbrev pub variables_over : List Word → Part → List Place
-variables_over names x = only_if (nat_lt 64 (length (with_names names (variables_in x)))) (place_of x)
+variables_over names x = only_if (nat_lt most_variables (length (with_names names (variables_in x)))) (place_of x)
 
 abbrev pub over_at : List Word → List Word → Part → List CheckStop
 over_at channels variables x =

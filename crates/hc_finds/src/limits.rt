@@ -1,6 +1,7 @@
 //! The limits on guards, channels, variables and nodes.
 
 ghost use Rattle.std.specs.Prelude.{◌≡◌, ◌++◌, [], map, min, nat_lt, length, flat_map, slice_get, Some, OnOk, IfErr, option_map};
+ghost use Rattle.hc_limits.specs.Limits.{most_nodes};
 ghost use Rattle.hc_modules.specs.Finds.{only_if};
 ghost use Rattle.hc_modules.specs.Outermost.{of_io};
 ghost use Rattle.hc_modules.specs.Sizes as size;
@@ -17,15 +18,8 @@ use crate::parts::Part;
 use crate::stop::{CheckStop, What};
 use hc_ast::{CondKind, CondTree, ExprKind, ExprTree, IoTree};
 use hc_frac::{Name, Place};
+use hc_limits::{MOST_CHANNELS, MOST_GUARDS, MOST_NODES, MOST_VARIABLES};
 use indexmap::IndexSet;
-
-const MOST_GUARDS: usize = 32;
-
-const MOST_CHANNELS: usize = 256;
-
-const MOST_VARIABLES: usize = 64;
-
-const MOST_NODES: u32 = 200;
 
 /// The nodes of an expression.
 fn nodes_of(expr: &ExprTree) -> u32
@@ -65,22 +59,22 @@ fn nodes_of_cond(cond: &CondTree) -> u32
     }
 }
 
-/// The root of an expression of more than 200 nodes.
+/// The root of an expression with too many nodes.
 fn long_expr(expr: &ExprTree) -> Option<Place>
-    ensures { result ≡ slice_get (only_if (nat_lt 200 (size.nodes expr.now)) expr.now.place) 0 }
+    ensures { result ≡ slice_get (only_if (nat_lt most_nodes (size.nodes expr.now)) expr.now.place) 0 }
 {
     only_if(nodes_of(expr) > MOST_NODES, expr.place)
 }
 
-/// The root of a condition of more than 200 nodes.
+/// The root of a condition with too many nodes.
 fn long_cond(cond: &CondTree) -> Option<Place>
-    ensures { result ≡ slice_get (only_if (nat_lt 200 (size.cond_nodes cond.now)) cond.now.place) 0 }
+    ensures { result ≡ slice_get (only_if (nat_lt most_nodes (size.cond_nodes cond.now)) cond.now.place) 0 }
 {
     only_if(nodes_of_cond(cond) > MOST_NODES, cond.place)
 }
 
 fn long_sent(io: &IoTree) -> Option<Place>
-    ensures { result ≡ slice_get (flat_map (λ o. only_if (nat_lt 200 o.size) o.place) (of_io io.now)) 0 }
+    ensures { result ≡ slice_get (flat_map (λ o. only_if (nat_lt most_nodes o.size) o.place) (of_io io.now)) 0 }
 {
     match io {
         IoTree::Send { channel: _, value } => long_expr(value),
@@ -88,7 +82,7 @@ fn long_sent(io: &IoTree) -> Option<Place>
     }
 }
 
-/// The root of the outermost expression or condition of a part, where it has more than 200 nodes.
+/// The root of the outermost expression or condition of a part, where it has too many nodes.
 fn long_root(part: Part<'_>) -> Option<Place>
     ensures { result ≡ slice_get (spec.nodes_beyond (part_of part.entry)) 0 }
 {
@@ -134,7 +128,7 @@ fn too_many(what: What, place: Place) -> CheckStop
     CheckStop::TooMany { what, place }
 }
 
-/// A branch behind 32 others is refused.
+/// A branch beyond the limit of guards is refused.
 fn limit_guards(part: Part<'_>) -> Result<(), CheckStop>
     ensures ok { OnOk result (spec.guards_beyond (part_of part.entry) ≡ []) }
     ensures stop { IfErr result (IsFirst (map (TooMany what.Guards) (spec.guards_beyond (part_of part.entry)))) }
@@ -150,7 +144,7 @@ fn limit_guards(part: Part<'_>) -> Result<(), CheckStop>
     }
 }
 
-/// An outermost expression or condition of more than 200 nodes is refused.
+/// An outermost expression or condition with too many nodes is refused.
 fn limit_nodes(part: Part<'_>) -> Result<(), CheckStop>
     ensures ok { OnOk result (spec.nodes_beyond (part_of part.entry) ≡ []) }
     ensures stop { IfErr result (IsFirst (map (TooMany what.Nodes) (spec.nodes_beyond (part_of part.entry)))) }
@@ -171,7 +165,7 @@ pub(crate) struct Named {
 }
 
 impl Named {
-    /// Notes the channel of a part, of which there may be 256.
+    /// Notes the channel of a part, of which there may be so many as the limit says.
     fn limit_channels(&mut self, part: Part<'_>) -> Result<(), CheckStop>
         ensures ok { OnOk result (tally.channels_over self.old.channels.keys (part_of part.entry) ≡ []) }
         ensures noted { OnOk result (self.new.channels.keys ≡ tally.with_names self.old.channels.keys (spec.channels_in (part_of part.entry))) }
@@ -188,7 +182,7 @@ impl Named {
         Ok(())
     }
 
-    /// Notes the variables of a part, of which its process may have 64.
+    /// Notes the variables of a part, of which its process may have so many as the limit says.
     fn limit_variables(&mut self, part: Part<'_>) -> Result<(), CheckStop>
         ensures ok { OnOk result (tally.variables_over self.old.variables.keys (part_of part.entry) ≡ []) }
         ensures noted { OnOk result (self.new.variables.keys ≡ tally.with_names self.old.variables.keys (spec.variables_in (part_of part.entry))) }

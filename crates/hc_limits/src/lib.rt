@@ -9,7 +9,7 @@ pub const MOST_SOURCE_BYTES: usize = 1_048_576;
 pub const MOST_WORD_BYTES: usize = 64;
 
 /// The most items (brackets, bodies, branches) that are open at once in a source.
-pub const MOST_OPEN_ITEMS: usize = 64;
+pub const MOST_OPEN_ITEMS: u32 = 64;
 
 /// The most nodes of one expression, or of one condition with its expressions: signs, numbers and names.
 pub const MOST_NODES: u32 = 200;

@@ -1,6 +1,7 @@
 -- What each phase of expansion finds, in the order of the text.
 use Rattle.std.specs.Prelude.{Bool, true, false, not, ◌||◌, ◌==◌, nat_lt, List, [], ◌∷◌, ◌++◌, map, drop, length, zip, flat_map, Option, Some, None, is_none}
 use Rattle.std.specs.List.{list_any}
+use Rattle.hc_limits.specs.Limits.{most_processes, most_statements, most_nodes_in_all}
 use Rattle.hc_frac.specs.declared.place.Place.{Place}
 use Rattle.hc_ast.specs.declared.expr.ExprKind.TheOpen.{ExprKind-F}
 use Rattle.hc_ast.specs.declared.expr.ExprTree.{ExprTree, fold-ExprTree}
@@ -47,9 +48,9 @@ writes_parameter ps w = only_if (list_any (is_value_of w.variable) ps) w.place
 abbrev pub parameters_written : List ModuleDef → List Place
 parameters_written ms = flat_map (λ m. flat_map (writes_parameter m.params) (flat_map written m.body)) ms
 
--- the processes behind the first 64
+-- the processes beyond the limit
 abbrev pub processes_too_many : List ProcessDef → List Place
-processes_too_many ps = map (λ p. p.place) (drop 64 ps)
+processes_too_many ps = map (λ p. p.place) (drop most_processes ps)
 
 -- a process with the name of an earlier one
 abbrev pub repeated_processes : List ProcessDef → List Place
@@ -108,8 +109,8 @@ arguments_misfit ms ps = flat_map (λ p. misfits_in ms p.body) ps
 
 -- a process with which there are more than 10,000 statements
 abbrev pub statements_too_many : List FlatProcess → List Place
-statements_too_many ps = along (λ before p. only_if (nat_lt 10000 (all_statements (before ++ p ∷ []))) p.place) [] ps
+statements_too_many ps = along (λ before p. only_if (nat_lt most_statements (all_statements (before ++ p ∷ []))) p.place) [] ps
 
 -- an outermost expression or condition with which there are more than 50,000 nodes
 abbrev pub nodes_too_many : List Outermost → List Place
-nodes_too_many xs = along (λ before x. only_if (nat_lt 50000 (total_size (before ++ x ∷ []))) x.place) [] xs
+nodes_too_many xs = along (λ before x. only_if (nat_lt most_nodes_in_all (total_size (before ++ x ∷ []))) x.place) [] xs

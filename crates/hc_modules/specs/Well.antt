@@ -1,6 +1,7 @@
 -- What every list of processes from a tree that the grammar has keeps.
 use Rattle.std.specs.Prelude.{◌≡◌, ◌≤◌, Bool, true, not, ◌&&◌, nat_le, List, [], ◌∷◌, length, Option, Some, None, IsTrue}
 use Rattle.std.specs.List.{list_all, list_any}
+use Rattle.hc_limits.specs.Limits.{most_processes, most_statements, most_nodes_in_all}
 use Rattle.hc_ast.specs.declared.stmt.StmtKind.TheOpen.{StmtKind-F}
 use Rattle.hc_ast.specs.declared.stmt.StmtTree.{StmtTree, fold-StmtTree}
 use Rattle.hc_ast.specs.declared.stmt.BranchTree.{BranchTree, fold-BranchTree}
@@ -48,15 +49,15 @@ abbrev pub names_apart : List FlatProcess → Bool
 names_apart [] = true
 names_apart (p ∷ ps) = not (list_any (λ q. same_word p.name q.name) ps) && names_apart ps
 
--- 1 to 64 processes of different names, each of them full, at most 10,000 statements and 50,000 nodes of expressions
+-- at least one process, of different names, each of them full, within the limits of processes, statements and nodes
 pub record IsWell (flat : Flat) : Type 0 where
   pub some : 1 ≤ length flat.processes
-  pub few : length flat.processes ≤ 64
+  pub few : length flat.processes ≤ most_processes
   pub apart : IsTrue (names_apart flat.processes)
   pub full : IsTrue (list_all is_full_process flat.processes)
   pub counted : flat.statements ≡ all_statements flat.processes
-  pub statements : all_statements flat.processes ≤ 10000
-  pub nodes : total_size (all_outermost flat.processes) ≤ 50000
+  pub statements : all_statements flat.processes ≤ most_statements
+  pub nodes : total_size (all_outermost flat.processes) ≤ most_nodes_in_all
 
 abbrev pub FlatsAreWell : Type 0
 FlatsAreWell = (flat : Flat) → IsFlat flat → IsWell flat

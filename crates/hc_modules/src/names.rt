@@ -8,6 +8,7 @@ ghost use Rattle.hc_modules.specs.Found.{first_of};
 
 use hc_ast::{ModuleDef, Param, ProcessDef};
 use hc_frac::{Name, Place};
+use hc_limits::MOST_PROCESSES;
 
 fn is_module(modules: &[ModuleDef], name: &Name) -> bool
     ensures { result ≡ list_any (λ m. same_word m.name name.now) modules.now }
@@ -64,7 +65,7 @@ pub(crate) fn no_repeated_parameter(modules: &[ModuleDef]) -> Result<(), Place>
 pub(crate) fn no_process_too_many(processes: &[ProcessDef]) -> Result<(), Place>
     ensures { result ≡ first_of (spec.processes_too_many processes.now) }
 {
-    match processes.get(64) {
+    match processes.get(MOST_PROCESSES) {
         Some(process) => Err(process.place),
         None => Ok(()),
     }

@@ -12,9 +12,7 @@ use hc_ast::{
     BranchTree, CondKind, CondTree, ExprKind, ExprTree, IoTree, RateTree, StmtKind, StmtTree,
 };
 use hc_frac::Place;
-
-/// The most nodes that all expressions and conditions may have together.
-const MOST_NODES: u32 = 50_000;
+use hc_limits::MOST_NODES_IN_ALL;
 
 /// How many nodes were met so far, or where the first expression or condition is with which there are too many.
 #[derive(Clone, Copy)]
@@ -95,7 +93,7 @@ impl NodeCount {
             return self;
         };
         let counted = counted.saturating_add(nodes_in(call, expr));
-        if counted > MOST_NODES {
+        if counted > MOST_NODES_IN_ALL {
             NodeCount::Beyond(root_in(call, expr))
         } else {
             NodeCount::Within(counted)
@@ -109,7 +107,7 @@ impl NodeCount {
             return self;
         };
         let counted = counted.saturating_add(cond_nodes_in(call, cond));
-        if counted > MOST_NODES {
+        if counted > MOST_NODES_IN_ALL {
             NodeCount::Beyond(cond.place)
         } else {
             NodeCount::Within(counted)

@@ -17,9 +17,7 @@ use crate::counts::statements_of_all;
 use crate::nodes::NodeCount;
 use hc_ast::{Body, ModuleDef, ProcessDef, StmtTree};
 use hc_frac::Place;
-
-/// The most statements that all processes may have together.
-const MOST_STATEMENTS: u32 = 10_000;
+use hc_limits::MOST_STATEMENTS;
 
 /// The statements that a process has, with the call in which they stand; those of its own stand in a call without parameters.
 #[derive(Clone, Copy)]

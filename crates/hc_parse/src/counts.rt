@@ -1,9 +1,11 @@
 //! What is counted along a source.
 
 ghost use Rattle.std.specs.Prelude.{◌≡◌, ◌≤◌, OnOk, IfErr};
+ghost use Rattle.hc_limits.specs.Limits.{most_open_items, most_nodes};
 ghost use Rattle.hc_ast.specs.Counts as spec;
 
 use hc_ast::{Mark, Role};
+use hc_limits::{MOST_NODES, MOST_OPEN_ITEMS};
 
 /// What may be wrong with a token.
 #[derive(Clone, Copy, Debug, PartialEq, Eq)]
@@ -20,8 +22,8 @@ pub(crate) enum Flaw {
 pub(crate) struct Counts {
     open_items: u32,
     nodes: u32,
-    ghost few_items: { open_items ≤ 64 },
-    ghost few_nodes: { nodes ≤ 200 },
+    ghost few_items: { open_items ≤ most_open_items },
+    ghost few_nodes: { nodes ≤ most_nodes },
 }
 
 impl Counts {
@@ -45,10 +47,10 @@ impl Counts {
     {
         let opens = matches!(role, Role::Prefix | Role::Begin | Role::Open);
         let is_node = matches!(role, Role::Leaf | Role::Operator | Role::Prefix);
-        if opens && self.open_items >= 64 {
+        if opens && self.open_items >= MOST_OPEN_ITEMS {
             return Err(Flaw::TooDeep);
         }
-        if is_node && self.nodes >= 200 {
+        if is_node && self.nodes >= MOST_NODES {
             return Err(Flaw::TooManyNodes);
         }
         if opens {

@@ -1,6 +1,7 @@
 //! Parsing.
 
 ghost use Rattle.std.specs.Prelude.{◌≡◌, ◌≤◌, ℕ, length, IfOk, IfErr};
+ghost use Rattle.hc_limits.specs.Limits.{most_source_bytes};
 ghost use Rattle.hc_frac.specs.declared.place.Place.{Place as At};
 ghost use Rattle.hc_ast.specs.declared.tree.Tree.{Tree as Said};
 ghost use Rattle.hc_ast.specs.Counts.{Flaw as Wrong};
@@ -47,7 +48,7 @@ fn stop_of(fault: Fault, place: Place) -> ParseStop
 
 /// The tree of a text, or the first place at which the text is no source, and why.
 pub fn parse(alloc: Global, bytes: &[u8]) -> Result<Tree, ParseStop>
-    requires { length bytes.now ≤ 1048576 }
+    requires { length bytes.now ≤ most_source_bytes }
 
     // An answer is right.
     ensures tree { IfOk result (IsSource bytes.now) }

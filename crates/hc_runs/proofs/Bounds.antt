@@ -8,8 +8,7 @@ use Rattle.hc_rational.proofs.OrderLaws.{≤ℚ_antisymm, ≤ℚ-<ℚ_trans, <�
 use Rattle.hc_rational.proofs.RankLaws.{is_positive_is, is_negative_is, is_zero_is, greater_is}
 use Rattle.hc_term.specs.Process.{is_due}
 use Rattle.hc_term.specs.Offers.{due_of}
-use Rattle.hc_term.specs.Moved.{less_by}
-use Rattle.hc_cross.specs.Laws.{IsWithin}
+use Rattle.hc_term.specs.Moved.{IsWithin, less_by}
 
 -- a bound runs out at the same moment whatever part of it has passed
 pub same_moment : (clock d b : Rational) → (clock +ℚ d) +ℚ (b -ℚ d) ≡ clock +ℚ b

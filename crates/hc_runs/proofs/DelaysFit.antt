@@ -23,8 +23,7 @@ use Rattle.hc_term.specs.Process.{Layer, bound_here, bound, is_due}
 use Rattle.hc_term.specs.Offers.{moving_of, moving_here, post}
 use Rattle.hc_term.specs.Communication.{moved_store, left_after, moved}
 use Rattle.hc_term.specs.Posts.{is_empty, bound_fits, moving_fits, offer_fits, post_fits}
-use Rattle.hc_cross.specs.Laws.{IsWithin}
-use Rattle.hc_term.specs.Moved.{less_by, moving_after, offer_after, offers_after, moved_post}
+use Rattle.hc_term.specs.Moved.{IsWithin, less_by, moving_after, offer_after, offers_after, moved_post}
 use Rattle.hc_runs.specs.Laws.{keeps_profile}
 use Rattle.hc_runs.proofs.Basics.{length-set}
 use Rattle.hc_runs.proofs.Bounds.{minus_none}

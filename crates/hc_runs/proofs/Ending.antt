@@ -9,9 +9,7 @@ use Rattle.hc_term.specs.Value.{Store}
 use Rattle.hc_term.specs.Motion.{Rates, rates_in, after}
 use Rattle.hc_term.specs.EndMoment.{EndsAt, Endless, end_moment, is_domain}
 use Rattle.hc_term.specs.Profile.{is_cond, is_moving_domain, pattern_of}
-use Rattle.hc_term.specs.Moved.{less_by}
-use Rattle.hc_cross.specs.Laws.{IsWithin}
-use Rattle.hc_cross.specs.Laws as cross
+use Rattle.hc_term.specs.Moved.{IsWithin, less_by}
 use Rattle.hc_cross.proofs.EndsRight.{right}
 use Rattle.hc_cross.proofs.Delays.{end_after}
 use Rattle.hc_runs.proofs.Alike.{same_domain}
@@ -20,11 +18,6 @@ use Rattle.hc_runs.proofs.Rated.{length-rates_in, alike}
 pub record Ending (s : Store) (r : Rates) (c : Cond) : Type 0 where
   pub later : (d : Rational) → zero_ℚ ≤ℚ d → IsWithin d (end_moment s r c) → end_moment (after s r d) r c ≡ less_by d (end_moment s r c)
   pub not_past : IsWithin zero_ℚ (end_moment s r c)
-
--- the laws of end moments have a word of their own for what is left of a bound
-same_rest : (d : Rational) (b : Option Rational) → cross.less_by d b ≡ less_by d b
-same_rest d None = refl
-same_rest d (Some b) = refl
 
 not_past_by : (c : Cond) (s : Store) (r : Rates) (x : Option Rational) → MatchOption x (Endless c s r) (λ d. EndsAt c s r d) → IsWithin zero_ℚ x
 not_past_by c s r None h = tt
@@ -37,6 +30,6 @@ ending s rs c h =
     let parts = and_parts (is_cond n c) (is_domain (pattern_of n rs) c) h in
     let domain : IsTrue (is_domain r c) = same_domain r (pattern_of n rs) (alike rs s) c ∙ parts.1 in
     record {
-      later = λ d k w. end_after c s r d (length-rates_in rs s) domain k w ∙ same_rest d (end_moment s r c);
+      later = λ d k w. end_after c s r d (length-rates_in rs s) domain k w;
       not_past = not_past_by c s r (end_moment s r c) (right c s r (length-rates_in rs s) domain);
     }

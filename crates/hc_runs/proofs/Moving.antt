@@ -18,8 +18,7 @@ use Rattle.hc_term.specs.Process.{Layer, bound_here, bound, is_due}
 use Rattle.hc_term.specs.Posts.{is_empty}
 use Rattle.hc_term.specs.Offers.{moving_of, moving_here, offers_of, offers_here, due_of, post}
 use Rattle.hc_term.specs.Communication.{moved_store, left_after, moved}
-use Rattle.hc_cross.specs.Laws.{IsWithin}
-use Rattle.hc_term.specs.Moved.{less_by, moving_after, offer_after, offers_after, moved_post}
+use Rattle.hc_term.specs.Moved.{IsWithin, less_by, moving_after, offer_after, offers_after, moved_post}
 use Rattle.hc_runs.specs.Laws.{in_profile, keeps_profile, PostsMove}
 use Rattle.hc_runs.proofs.Evolving.{evolving}
 use Rattle.hc_runs.proofs.Bounds.{wait_after, due_moves, not_due_before}

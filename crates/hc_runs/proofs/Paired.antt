@@ -5,6 +5,7 @@ use Rattle.std.proofs.lemmas.Bool.{true≢false, and_parts, and_from, not-true, 
 use Rattle.std.proofs.lemmas.List.Sums.{sum_by-cons}
 use Rattle.std.proofs.lemmas.List.Folds.{list_all-map}
 use Rattle.hc_rational.specs.Words.{Rational, zero_ℚ}
+use Rattle.hc_term.specs.Moved.{IsWithin}
 use Rattle.hc_term.specs.declared.system.Process.{Process}
 use Rattle.hc_term.specs.declared.task.Task.{Task}
 use Rattle.hc_term.specs.declared.post.Post.{Post}
@@ -14,7 +15,6 @@ use Rattle.hc_term.specs.Offers.{post}
 use Rattle.hc_term.specs.Rules.{is_user, is_joined, all_below}
 use Rattle.hc_term.proofs.Used.{all_below-false}
 use Rattle.hc_term.proofs.Handed.{offered-used}
-use Rattle.hc_cross.specs.Laws.{IsWithin}
 use Rattle.hc_term.specs.Together.{is_offer, offered, is_on_both, not_past}
 use Rattle.hc_runs.specs.Laws.{PostsArePaired}
 use Rattle.hc_runs.proofs.Basics.{neither_of}

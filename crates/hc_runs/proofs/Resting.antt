@@ -22,8 +22,7 @@ use Rattle.hc_term.specs.Communication.{moved}
 use Rattle.hc_term.specs.Posts.{Passing, NoBound, AtHorizon, least_bound, is_timed, passing_below}
 use Rattle.hc_term.specs.Step.{posts, ready, rests, passing, passing_by, passing_quiet, delayed}
 use Rattle.hc_term.proofs.Quiet.{delays_keep_quiet}
-use Rattle.hc_term.specs.Moved.{less_by}
-use Rattle.hc_cross.specs.Laws.{IsWithin}
+use Rattle.hc_term.specs.Moved.{IsWithin, less_by}
 use Rattle.hc_runs.specs.Laws.{keeps_profile, IsOver, DelaysEnd}
 use Rattle.hc_runs.proofs.Bounds.{due_after_bound}
 use Rattle.hc_runs.proofs.Moving.{bound_moves, bound_not_past}

@@ -6,6 +6,7 @@ use Rattle.hc_rational.specs.Words.{Rational, zero_ℚ, ◌+ℚ◌, ◌-ℚ◌, 
 use Rattle.hc_rational.proofs.FitsLaws.{zero_fits}
 use Rattle.hc_rational.proofs.OrderLaws.{≤ℚ-or-<ℚ, ≤ℚ--ℚ}
 use Rattle.hc_rational.proofs.RankLaws.{is_negative_is}
+use Rattle.hc_term.specs.Moved.{IsWithin}
 use Rattle.hc_term.specs.declared.system.Process.{Process}
 use Rattle.hc_term.specs.declared.task.Task.{Task}
 use Rattle.hc_term.specs.declared.run.Step.{Step}
@@ -22,7 +23,6 @@ use Rattle.hc_term.specs.Offers.{post}
 use Rattle.hc_term.specs.Communication.{sent, received, moved}
 use Rattle.hc_term.specs.Posts.{Took, first_of, offer_sent_on, sent_on, post_fits}
 use Rattle.hc_term.specs.Step.{opening, opening_of, posts, passing, silent_by, silent_of, changed, SendsAt, StepTo, Leads}
-use Rattle.hc_cross.specs.Laws.{IsWithin}
 use Rattle.hc_term.specs.Together.{is_within}
 use Rattle.hc_runs.specs.Laws.{keeps_profile}
 use Rattle.hc_runs.proofs.Taking.{taking}

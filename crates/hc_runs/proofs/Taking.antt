@@ -5,13 +5,13 @@ use Rattle.std.specs.declared.cmp.Ordering.{Ordering}
 use Rattle.std.specs.declared.cmp.Ordering.TheVariants as side
 use Rattle.hc_rational.specs.Words.{Rational, ◌-ℚ◌, ◌<ℚ◌, rank}
 use Rattle.hc_rational.proofs.RankLaws.{rank_is, lesser_is}
+use Rattle.hc_term.specs.Moved.{IsWithin}
 use Rattle.hc_term.specs.declared.task.Task.{Task}
 use Rattle.hc_term.specs.declared.post.Post.{Post}
 use Rattle.hc_term.specs.declared.model.Configuration.{Configuration}
 use Rattle.hc_term.specs.Posts.{NoBound, Overflows, Took, least_bound, is_timed, length_of_delay, delay_fits, passing_below}
 use Rattle.hc_term.specs.Step.{posts, passing}
 use Rattle.hc_term.proofs.Turns.{passing-quiet}
-use Rattle.hc_cross.specs.Laws.{IsWithin}
 use Rattle.hc_runs.specs.Laws.{DelayFits}
 
 lasts_by : (most : Rational) (b : Option Rational) → (b ≡ Some (length_of_delay most b)) ⊎ (length_of_delay most b ≡ most)

@@ -11,8 +11,7 @@ use Rattle.hc_term.specs.Offers.{post}
 use Rattle.hc_term.specs.Communication.{moved}
 use Rattle.hc_term.specs.Posts.{least_bound}
 use Rattle.hc_term.specs.Step.{posts}
-use Rattle.hc_cross.specs.Laws.{IsWithin}
-use Rattle.hc_term.specs.Moved.{moved_post}
+use Rattle.hc_term.specs.Moved.{IsWithin, moved_post}
 use Rattle.hc_term.specs.Together.{is_within}
 use Rattle.hc_runs.specs.Laws.{keeps_profile, AllPostsMove}
 use Rattle.hc_runs.proofs.Bounds.{not_negative}

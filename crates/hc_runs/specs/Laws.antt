@@ -18,9 +18,8 @@ use Rattle.hc_term.specs.Canonical.{wanting_from}
 use Rattle.hc_term.specs.Event.{event}
 use Rattle.hc_term.specs.Profile.{is_evolution, ios_in}
 use Rattle.hc_term.specs.Rules.{is_stmt}
-use Rattle.hc_term.specs.Moved.{moved_post, fired}
+use Rattle.hc_term.specs.Moved.{IsWithin, moved_post, fired}
 use Rattle.hc_term.specs.Together.{is_within, ArePaired}
-use Rattle.hc_cross.specs.Laws.{IsWithin}
 use Rattle.hc_runs.specs.Fractions.{task_numbers, has_fractions, is_item_fraction}
 
 -- whether a statement of a process with n variables keeps the profile, if it evolves

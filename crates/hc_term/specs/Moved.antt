@@ -1,6 +1,6 @@
 -- What a delay and a meeting make of what processes show.
-use Rattle.std.specs.Prelude.{ℕ, if◌then◌else◌, List, [], map, slice_set, Option, Some, None}
-use Rattle.hc_rational.specs.Words.{Rational, ◌+ℚ◌, ◌-ℚ◌, ◌*ℚ◌}
+use Rattle.std.specs.Prelude.{ℕ, if◌then◌else◌, List, [], map, slice_set, Option, Some, None, ⊤}
+use Rattle.hc_rational.specs.Words.{Rational, ◌+ℚ◌, ◌-ℚ◌, ◌*ℚ◌, ◌≤ℚ◌}
 use Rattle.hc_term.specs.declared.post.Post.{Post}
 use Rattle.hc_term.specs.declared.post.Moving.{Moving}
 use Rattle.hc_term.specs.declared.post.Offer.{Offer}
@@ -11,6 +11,11 @@ use Rattle.hc_term.specs.Offers.{going_post}
 use Rattle.hc_term.specs.Posts.{is_empty}
 
 -- ---- a delay
+
+-- d is at most this bound
+abbrev pub IsWithin : Rational → Option Rational → Type 0
+IsWithin d None = ⊤
+IsWithin d (Some b) = d ≤ℚ b
 
 -- what is left of a bound after d time units
 abbrev pub less_by : Rational → Option Rational → Option Rational

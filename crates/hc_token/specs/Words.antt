@@ -1,6 +1,7 @@
 -- Words: keywords, names and rates.
 use Rattle.std.specs.Prelude.{ℕ, ◌-◌, Bool, not, ◌&&◌, if◌then◌else◌, List, length, take, Option, Some, None, is_some, codes, nat_eq, nat_lt}
 use Rattle.std.specs.List.{ends_with}
+use Rattle.hc_limits.specs.Limits.{most_word_bytes}
 use Rattle.hc_token.specs.declared.kind.Kind.{Kind}
 use Rattle.hc_token.specs.declared.kind.Kind.TheVariants as k
 use Rattle.hc_token.specs.declared.token.Content.{Content}
@@ -27,11 +28,11 @@ is_name w = not (is_some (keyword w)) && not (ends_in_dot w)
 abbrev pub before_dot : List ℕ → Lexeme
 before_dot front = if is_name front then (k.Rate, says.Name front) else (k.Other, says.Plain)
 
--- a word of at most 64 bytes, which may be a keyword
+-- a word within the limit, which may be a keyword
 abbrev pub short_word : Option Kind → List ℕ → Lexeme
 short_word (Some kind) w = (kind, says.Plain)
 short_word None w = if ends_in_dot w then before_dot (front_of w) else (k.Name, says.Name w)
 
 -- a word
 unfoldable pub word : List ℕ → Lexeme
-word w = if nat_lt 64 (length w) then (k.LongWord, says.Plain) else short_word (keyword w) w
+word w = if nat_lt most_word_bytes (length w) then (k.LongWord, says.Plain) else short_word (keyword w) w

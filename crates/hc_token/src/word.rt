@@ -9,8 +9,7 @@ ghost use Rattle.hc_token.specs.Words as spec;
 use crate::kind::{Kind, keyword};
 use crate::token::Content;
 use hc_frac::Name;
-
-const LONGEST_WORD: usize = 64;
+use hc_limits::MOST_WORD_BYTES;
 
 const RATE_ENDING: &[u8; 4] = b"_dot";
 
@@ -21,7 +20,7 @@ pub(crate) fn word(word: &[u8]) -> (Kind, Content)
     requires all { IsTrue (list_all word_byte word.now) }
     ensures { result ≡ spec.word word.now }
 {
-    if word.len() > LONGEST_WORD {
+    if word.len() > MOST_WORD_BYTES {
         return (Kind::LongWord, Content::Plain);
     }
     if let Some(kind) = keyword(word) {
