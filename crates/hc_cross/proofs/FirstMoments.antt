@@ -1,9 +1,10 @@
 -- The first moment from 0 on at which a test holds, and that of two tests.
 use Rattle.std.proofs.Common.{◌≡◌, ◌⊎◌, inl, inr, sym, ap, ap₂, subst, ◌∙◌, Bool, true, false, ◌||◌, Option, Some, None}
 use Rattle.std.proofs.lemmas.Bool.{or_cases, or_from, or_left, or_right}
-use Rattle.hc_rational.specs.Words.{Rational, zero_ℚ, ◌≤ℚ◌, lesser, earlier}
+use Rattle.hc_rational.specs.Words.{Rational, zero_ℚ, ◌≤ℚ◌, lesser}
 use Rattle.hc_rational.proofs.OrderLaws.{≤ℚ_antisymm, ≤ℚ_trans}
 use Rattle.hc_rational.proofs.RankLaws.{lesser_is}
+use Rattle.hc_term.specs.EndMoment.{earlier}
 use Rattle.hc_cross.proofs.Earlier.{earlier_is}
 
 pub record IsFirst (f : Rational → Bool) (d : Rational) : Type 0 where

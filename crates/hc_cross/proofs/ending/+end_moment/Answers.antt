@@ -1,6 +1,6 @@
 use Rattle.std.proofs.Common.{◌≡◌, ◌&&◌, ap₂, sym, ◌∙◌}
 use Rattle.hc_term.specs.declared.expr.Cond.TheViews as seen
-use Rattle.hc_rational.specs.Words.{earlier}
+use Rattle.hc_term.specs.EndMoment.{earlier}
 use Rattle.hc_cross.proofs.CondForms.{fits-And}
 use Rattle.hc_cross.proofs.LeastFailing.{end-And}
 use Rattle.hc_cross.proofs.ending.+end_moment.Goals as goal
