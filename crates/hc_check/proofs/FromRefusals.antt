@@ -42,9 +42,8 @@ module _ (ps : List FlatProcess) (none : refusals ps ≡ []) where
   kept_rule rule.DivisorIsNotZero = none_broken.1.0
   kept_rule rule.RatesDiffer = none_broken.1.1.0
   kept_rule rule.RatesAreConstant = none_broken.1.1.1.0
-  kept_rule rule.DomainIsConjunction = none_broken.1.1.1.1.0
-  kept_rule rule.IsAffine = none_broken.1.1.1.1.1.0
-  kept_rule rule.GuardsDiffer = none_broken.1.1.1.1.1.1.0
+  kept_rule rule.IsAffine = none_broken.1.1.1.1.0
+  kept_rule rule.GuardsDiffer = none_broken.1.1.1.1.1.0
 
   lawful : (r : Rule) → Each (λ p. Each (λ x. breaks r x ≡ []) (parts_of false p.body)) ps
   lawful r =

@@ -22,7 +22,7 @@ module _ (cs xs : List Word) where
   moving_domain : (rs : List RateTree) (p : Place) (c : CondTree) → IsClean cs xs (domain rs p c)
       → IsTrue (is_moving_domain (length xs) (pattern cs xs rs) (cond_over xs c))
   moving_domain rs p c h =
-      both (both (domain_ruled cs xs rs p c h) (exprs.conjunction xs c (h.lawful rule.DomainIsConjunction)))
+      both (domain_ruled cs xs rs p c h)
       (exprs.domain xs (evolving rs) (pattern cs xs rs) (pattern_agrees xs rs) c
       (each_joined (exprs.IsPlain xs) (λ e. (moves_of (evolving rs) e).products ≡ []) (sides c) (domain_plain cs xs rs p c h)
       (none_found (λ e. (moves_of (evolving rs) e).products) (sides c) (h.lawful rule.IsAffine))))

@@ -9,8 +9,8 @@ use Rattle.hc_modules.specs.Sizes as source
 use Rattle.hc_modules.proofs.Induction.{Each}
 use Rattle.hc_term.specs.Motion.{Rates, evolves, form}
 use Rattle.hc_term.specs.EndMoment.{is_domain}
-use Rattle.hc_term.specs.Profile.{is_expr, is_cond, is_conjunction}
-use Rattle.hc_finds.specs.Exprs.{sides, odd_divisors, nought_divisors, is_among, moves_of, mixed_in}
+use Rattle.hc_term.specs.Profile.{is_expr, is_cond}
+use Rattle.hc_finds.specs.Exprs.{sides, odd_divisors, nought_divisors, is_among, moves_of}
 use Rattle.hc_finds.specs.Names.{number_in}
 use Rattle.hc_finds.proofs.ExprForms as inside
 use Rattle.hc_check.specs.Numbered.{expr_over, cond_over}
@@ -81,25 +81,3 @@ module _ (xs : List Word) where
       both (both (le-leb _ _ (omega (arith, cond_nodes_same xs c, few)))
       (le-leb _ _ (cond_reach_within xs c (each_weaker (IsPlain xs) (AreNamed xs) (λ e k. k.named) (sides c) h))))
       (domain xs [] [] (none_agree xs) c (each_weaker (IsPlain xs) (IsLinear xs [] [] (none_agree xs)) still (sides c) h))
-
-  -- ---- conjunctions
-
-  abbrev IsConjunction : CondTree → Type 0
-  IsConjunction c = mixed_in c ≡ [] → IsTrue (is_conjunction (cond_over xs c))
-
-  conjunction_steps : CondSteps IsConjunction
-  conjunction_steps = record {
-    holds = λ c is h. ap is_conjunction (over.over-True xs c is) ∙ term.conjunction-True;
-    fails = λ c is h. ap is_conjunction (over.over-False xs c is) ∙ term.conjunction-False;
-    compare = λ c how a b is h. ap is_conjunction (over.over-Compare xs c how a b is) ∙ term.conjunction-Compare _ _ _;
-    negated = λ c x is f h. let e = sym (inside.mixed-not c x is) ∙ h in absurd (cc (e));
-    conjoined = λ c x y is f g h.
-        let parts = both_empty (mixed_in x) (mixed_in y) (sym (inside.mixed-and c x y is) ∙ h) in
-        ap is_conjunction (over.over-And xs c x y is) ∙ term.conjunction-And _ _ ∙ both (f parts.0) (g parts.1);
-    disjoined = λ c x y is f g h.
-        let parts = both_empty (mixed_in x) (c.place ∷ mixed_in y) (sym (inside.mixed-or c x y is) ∙ h) in
-        let e = parts.1 in absurd (cc (e));
-  }
-
-  pub conjunction : (c : CondTree) → mixed_in c ≡ [] → IsTrue (is_conjunction (cond_over xs c))
-  conjunction = by_cond IsConjunction conjunction_steps

@@ -13,7 +13,7 @@ use Rattle.hc_term.specs.declared.expr.Cond.TheVariants as a
 use Rattle.hc_term.specs.declared.form.Form.{Form}
 use Rattle.hc_term.specs.Motion.{Rates, evolves, allowed, form}
 use Rattle.hc_term.specs.EndMoment.{is_domain}
-use Rattle.hc_term.specs.Profile.{nodes, nodes_in, reach, reach_in, is_conjunction}
+use Rattle.hc_term.specs.Profile.{nodes, nodes_in, reach, reach_in}
 
 pub nodes-Number : (q : Rational) → nodes (an.Number q) ≡ 1
 nodes-Number q = search (rules, exprs.the_lemmas)
@@ -109,15 +109,3 @@ reach-And c d = search (rules, conds.the_lemmas)
 
 pub reach-Or : (c d : Cond) → reach_in (a.Or c d) ≡ max (reach_in c) (reach_in d)
 reach-Or c d = search (rules, conds.the_lemmas)
-
-pub conjunction-True : is_conjunction a.True ≡ true
-conjunction-True = search (rules, conds.the_lemmas)
-
-pub conjunction-False : is_conjunction a.False ≡ true
-conjunction-False = search (rules, conds.the_lemmas)
-
-pub conjunction-Compare : (how : Comparison) (t u : Expr) → is_conjunction (a.Compare how t u) ≡ true
-conjunction-Compare how t u = search (rules, conds.the_lemmas)
-
-pub conjunction-And : (c d : Cond) → is_conjunction (a.And c d) ≡ (is_conjunction c && is_conjunction d)
-conjunction-And c d = search (rules, conds.the_lemmas)

@@ -81,10 +81,7 @@ fn system_of(alloc: Global, flat: &Flat, limited: &Limited) -> Result<System, Al
 {
     let processes = number_processes(alloc, limited, flat.processes.as_slice())?;
     let channels = listed(alloc, &limited.channels)?;
-    match System::new(processes, channels) {
-        Some(system) => Ok(system),
-        None => unreachable!(),
-    }
+    Ok(System::new(processes, channels))
 }
 
 /// The system of an expanded source, or its first refusal: of the first phase that finds something, what it finds
@@ -102,6 +99,5 @@ pub fn check(alloc: Global, flat: &Flat) -> Result<System, CheckStop>
     ensures every_refusal { (stop : Stop) → IsRefused flat.now stop → IsStopOrMemory stop result }
 {
     let limited = unrefused(alloc, flat.processes.as_slice())?;
-    let system = system_of(alloc, flat, &limited)?;
-    Ok(system)
+    Ok(system_of(alloc, flat, &limited)?)
 }

@@ -71,7 +71,6 @@ unchecked_gives tree flat from (check.DivisorNotLiteral p) is = inr (unchecked f
 unchecked_gives tree flat from (check.ZeroDivisor p) is = inr (unchecked flat from (check.ZeroDivisor p) is refl)
 unchecked_gives tree flat from (check.RepeatedRate p) is = inr (unchecked flat from (check.RepeatedRate p) is refl)
 unchecked_gives tree flat from (check.RateEvolves p) is = inr (unchecked flat from (check.RateEvolves p) is refl)
-unchecked_gives tree flat from (check.DomainForm p) is = inr (unchecked flat from (check.DomainForm p) is refl)
 unchecked_gives tree flat from (check.NotAffine p) is = inr (unchecked flat from (check.NotAffine p) is refl)
 unchecked_gives tree flat from (check.RepeatedGuard p) is = inr (unchecked flat from (check.RepeatedGuard p) is refl)
 unchecked_gives tree flat from (check.SelfChannel p) is = inr (unchecked flat from (check.SelfChannel p) is refl)

@@ -91,7 +91,6 @@ module _ (k : ℕ) (other : IsOther k) where
   unchecked_other (check.ZeroDivisor p) e = other.refusal e
   unchecked_other (check.RepeatedRate p) e = other.refusal e
   unchecked_other (check.RateEvolves p) e = other.refusal e
-  unchecked_other (check.DomainForm p) e = other.refusal e
   unchecked_other (check.NotAffine p) e = other.refusal e
   unchecked_other (check.RepeatedGuard p) e = other.refusal e
   unchecked_other (check.SelfChannel p) e = other.refusal e

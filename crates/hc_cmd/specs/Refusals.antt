@@ -76,7 +76,6 @@ message_of_check_stop (check.DivisorNotLiteral p) = at_place p (codes "divisor i
 message_of_check_stop (check.ZeroDivisor p) = at_place p (codes "division by zero")
 message_of_check_stop (check.RepeatedRate p) = at_place p (codes "rate given twice")
 message_of_check_stop (check.RateEvolves p) = at_place p (codes "rate mentions an evolving variable")
-message_of_check_stop (check.DomainForm p) = at_place p (codes "domain is not a conjunction")
 message_of_check_stop (check.NotAffine p) = at_place p (codes "not affine")
 message_of_check_stop (check.RepeatedGuard p) = at_place p (codes "channel guarded twice")
 message_of_check_stop (check.SelfChannel p) = at_place p (codes "process on both ends of a channel")

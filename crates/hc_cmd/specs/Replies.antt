@@ -12,7 +12,7 @@ use Rattle.hc_ast.specs.declared.tree.Tree.{Tree}
 use Rattle.hc_ast.specs.Counts.{Flaw}
 use Rattle.hc_ast.specs.Source.{IsSource, IsRefused}
 use Rattle.hc_print.specs.Canonical.{canonical as canonical_spelling}
-use Rattle.hc_term.specs.Plain.{is_plain_system}
+use Rattle.hc_plain.specs.Plain.{is_plain_system}
 use Rattle.hc_modules.specs.declared.flat.Flat.{Flat}
 use Rattle.hc_modules.specs.declared.flat.ModuleStop.{ModuleStop}
 use Rattle.hc_modules.specs.Refusals.{IsExpansion}

@@ -120,7 +120,6 @@ fn line_of_check_stop(stop: CheckStop) -> ArrayString<128>
         CheckStop::ZeroDivisor { place } => line_at(place, "division by zero"),
         CheckStop::RepeatedRate { place } => line_at(place, "rate given twice"),
         CheckStop::RateEvolves { place } => line_at(place, "rate mentions an evolving variable"),
-        CheckStop::DomainForm { place } => line_at(place, "domain is not a conjunction"),
         CheckStop::NotAffine { place } => line_at(place, "not affine"),
         CheckStop::RepeatedGuard { place } => line_at(place, "channel guarded twice"),
         CheckStop::SelfChannel { place } => line_at(place, "process on both ends of a channel"),

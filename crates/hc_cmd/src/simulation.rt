@@ -76,10 +76,7 @@ fn task_of(settings: Settings, system: System) -> Task
     requires { MayRun (asked.Simulate settings) }
     ensures { HasParts system settings.seed settings.horizon settings.limit result }
 {
-    match Task::new(system, settings.seed, settings.horizon, settings.limit) {
-        Some(task) => task,
-        None => unreachable!(),
-    }
+    Task::new(system, settings.seed, settings.horizon, settings.limit)
 }
 
 fn status_of_stop(stop: Stop) -> u8

@@ -1,4 +1,3 @@
-pub mod SameNumbers
 pub mod Sums
 pub mod Growing
 pub mod Ways

@@ -11,7 +11,7 @@ use Rattle.hc_ast.specs.declared.expr.CondKind.TheVariants as plain
 use Rattle.hc_ast.specs.declared.expr.CondTree.{CondTree}
 use Rattle.hc_ast.specs.Bare.{Word}
 use Rattle.hc_modules.specs.Finds.{only_if}
-use Rattle.hc_finds.specs.Exprs.{names_in, sides, is_division, is_product, odd_divisors, nought_divisors, moves_of, mixed_in}
+use Rattle.hc_finds.specs.Exprs.{names_in, sides, is_division, is_product, odd_divisors, nought_divisors, moves_of}
 
 module _ (e : ExprTree) where
   module _ (a : ExprTree) (is : e.kind ≡ seen.Neg a) where
@@ -52,21 +52,12 @@ module _ (x : CondTree) where
     pub sides-not : sides x ≡ sides y
     sides-not = search (rules, cond_kinds.the_lemmas)
 
-    pub mixed-not : mixed_in x ≡ x.place ∷ mixed_in y
-    mixed-not = search (rules, cond_kinds.the_lemmas)
-
   module _ (y z : CondTree) (is : x.kind ≡ test.And y z) where
     pub sides-and : sides x ≡ sides y ++ sides z
     sides-and = search (rules, cond_kinds.the_lemmas)
-
-    pub mixed-and : mixed_in x ≡ mixed_in y ++ mixed_in z
-    mixed-and = search (rules, cond_kinds.the_lemmas)
 
   module _ (y z : CondTree) (is : x.kind ≡ test.Or y z) where
     pub sides-or : sides x ≡ sides y ++ sides z
     sides-or = search (rules, cond_kinds.the_lemmas)
 
-    pub mixed-or : mixed_in x ≡ mixed_in y ++ x.place ∷ mixed_in z
-    mixed-or = search (rules, cond_kinds.the_lemmas)
-
-pub ruleset forms = (names-neg, names-binary, odd-neg, odd-binary, nought-neg, nought-binary, moves-neg, moves-binary, products-binary, sides-compare, sides-not, sides-and, sides-or, mixed-not, mixed-and, mixed-or)
+pub ruleset forms = (names-neg, names-binary, odd-neg, odd-binary, nought-neg, nought-binary, moves-neg, moves-binary, products-binary, sides-compare, sides-not, sides-and, sides-or)

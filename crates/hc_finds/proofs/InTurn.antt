@@ -13,7 +13,6 @@ first-told xs (stop.DivisorNotLiteral p) e = e
 first-told xs (stop.ZeroDivisor p) e = e
 first-told xs (stop.RepeatedRate p) e = e
 first-told xs (stop.RateEvolves p) e = e
-first-told xs (stop.DomainForm p) e = e
 first-told xs (stop.NotAffine p) e = e
 first-told xs (stop.RepeatedGuard p) e = e
 first-told xs (stop.SelfChannel p) e = e

@@ -52,7 +52,6 @@ first-stop xs ys (stop.DivisorNotLiteral p) h = first-some xs ys _ h
 first-stop xs ys (stop.ZeroDivisor p) h = first-some xs ys _ h
 first-stop xs ys (stop.RepeatedRate p) h = first-some xs ys _ h
 first-stop xs ys (stop.RateEvolves p) h = first-some xs ys _ h
-first-stop xs ys (stop.DomainForm p) h = first-some xs ys _ h
 first-stop xs ys (stop.NotAffine p) h = first-some xs ys _ h
 first-stop xs ys (stop.RepeatedGuard p) h = first-some xs ys _ h
 first-stop xs ys (stop.SelfChannel p) h = first-some xs ys _ h

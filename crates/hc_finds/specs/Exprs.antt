@@ -101,17 +101,3 @@ moves_layer xs (ExprKind-F.Binary op a b) p = record {
 
 abbrev pub moves_of : List Word → ExprTree → Moves
 moves_of xs e = fold-ExprTree (Place → Moves) Moves (moves_layer xs) (λ t. t.kind t.place) e
-
--- ---- the form of a domain
-
-abbrev pub mixed_layer : CondKind-F (Place → List Place) (List Place) → Place → List Place
-mixed_layer CondKind-F.True p = []
-mixed_layer CondKind-F.False p = []
-mixed_layer (CondKind-F.Compare how a b) p = []
-mixed_layer (CondKind-F.Not x) p = p ∷ x
-mixed_layer (CondKind-F.And x y) p = x ++ y
-mixed_layer (CondKind-F.Or x y) p = x ++ p ∷ y
-
--- the `||` and `!` in a condition
-abbrev pub mixed_in : CondTree → List Place
-mixed_in x = fold-CondTree (Place → List Place) (List Place) mixed_layer (λ t. t.kind t.place) x

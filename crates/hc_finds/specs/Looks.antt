@@ -9,7 +9,7 @@ use Rattle.hc_ast.specs.declared.stmt.IoTree.TheVariants as io_of
 use Rattle.hc_ast.specs.declared.stmt.RateTree.{RateTree}
 use Rattle.hc_modules.specs.Bindings.{same_word}
 use Rattle.hc_modules.specs.Finds.{only_if}
-use Rattle.hc_finds.specs.Exprs.{names_in, sides, odd_divisors, nought_divisors, is_among, moves_of, mixed_in}
+use Rattle.hc_finds.specs.Exprs.{names_in, sides, odd_divisors, nought_divisors, is_among, moves_of}
 use Rattle.hc_finds.specs.Parts.{Part, assign, compute, test, communicate, rate, domain, guard}
 
 -- the value that a communication sends
@@ -47,11 +47,6 @@ rated_again x = []
 abbrev pub evolves_in_rate : Part → List Place
 evolves_in_rate (rate all earlier r) = flat_map (λ n. only_if (is_among (evolving all) n.word) n.place) (names_in r.value)
 evolves_in_rate x = []
-
--- what is no conjunction in a domain
-abbrev pub mixed_domain : Part → List Place
-mixed_domain (domain rs p c) = mixed_in c
-mixed_domain x = []
 
 -- the products of these expressions with evolving variables on both sides
 abbrev pub products_in : List RateTree → List ExprTree → List Place

@@ -14,7 +14,6 @@ breaks rule.NumberDivides x = look.odd_in x
 breaks rule.DivisorIsNotZero x = look.nought_in x
 breaks rule.RatesDiffer x = look.rated_again x
 breaks rule.RatesAreConstant x = look.evolves_in_rate x
-breaks rule.DomainIsConjunction x = look.mixed_domain x
 breaks rule.IsAffine x = look.not_affine x
 breaks rule.GuardsDiffer x = look.guarded_again x
 
@@ -24,7 +23,6 @@ refused_by rule.NumberDivides p = stop.DivisorNotLiteral p
 refused_by rule.DivisorIsNotZero p = stop.ZeroDivisor p
 refused_by rule.RatesDiffer p = stop.RepeatedRate p
 refused_by rule.RatesAreConstant p = stop.RateEvolves p
-refused_by rule.DomainIsConjunction p = stop.DomainForm p
 refused_by rule.IsAffine p = stop.NotAffine p
 refused_by rule.GuardsDiffer p = stop.RepeatedGuard p
 
@@ -36,4 +34,4 @@ broken r xs = map (refused_by r) (flat_map (breaks r) xs)
 abbrev pub rules : List Rule
 rules =
     rule.NumberDivides ∷ rule.DivisorIsNotZero ∷ rule.RatesDiffer ∷ rule.RatesAreConstant
-    ∷ rule.DomainIsConjunction ∷ rule.IsAffine ∷ rule.GuardsDiffer ∷ []
+    ∷ rule.IsAffine ∷ rule.GuardsDiffer ∷ []

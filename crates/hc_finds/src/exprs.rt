@@ -192,22 +192,3 @@ pub(crate) fn product_in(rates: &[RateTree], cond: &CondTree) -> Option<Place>
         )),
     }
 }
-
-/// The first `||` or `!` of a condition.
-#[tactic(auto, using(crate::proofs::First::firsts, crate::proofs::ExprForms::forms))]
-pub(crate) fn mixed_in(cond: &CondTree) -> Option<Place>
-    ensures { result ≡ slice_get (spec.mixed_in cond.now) 0 }
-{
-    match &cond.kind {
-        CondKind::True | CondKind::False | CondKind::Compare(..) => None,
-        CondKind::Not(_) => Some(cond.place),
-        CondKind::And(left, right) => {
-            let before = mixed_in(left.get());
-            before.or(mixed_in(right.get()))
-        }
-        CondKind::Or(left, _) => {
-            let before = mixed_in(left.get());
-            before.or(Some(cond.place))
-        }
-    }
-}

@@ -13,12 +13,11 @@ use crate::stop::CheckStop;
 use crate::uses::{Use, on_both_ends, shared_end};
 
 /// The rules in the order in which they are asked.
-const RULES: [Rule; 7] = [
+const RULES: [Rule; 6] = [
     Rule::NumberDivides,
     Rule::DivisorIsNotZero,
     Rule::RatesDiffer,
     Rule::RatesAreConstant,
-    Rule::DomainIsConjunction,
     Rule::IsAffine,
     Rule::GuardsDiffer,
 ];

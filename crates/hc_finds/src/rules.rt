@@ -9,7 +9,7 @@ ghost use Rattle.std.specs.List.{list_any};
 ghost use Rattle.hc_finds.specs.Seen.{io_in};
 
 use crate::exprs::{
-    evolving_name, is_evolving, mixed_in, moves_of, nought_divisor, nought_divisor_in, odd_divisor,
+    evolving_name, is_evolving, moves_of, nought_divisor, nought_divisor_in, odd_divisor,
     odd_divisor_in, only_if, product_in,
 };
 use crate::parts::Part;
@@ -26,7 +26,6 @@ pub enum Rule {
     RatesDiffer,
     /// A rate mentions no variable that evolves in the same evolution.
     RatesAreConstant,
-    DomainIsConjunction,
     /// In a domain and in what a guard of an evolution sends, no product has evolving variables on both sides.
     IsAffine,
     /// No choice has two branches on one channel in one direction.
@@ -136,7 +135,6 @@ impl Rule {
             Rule::DivisorIsNotZero => nought(part),
             Rule::RatesDiffer => rated_again(part),
             Rule::RatesAreConstant => evolves_in_rate(part),
-            Rule::DomainIsConjunction => mixed_domain(part),
             Rule::IsAffine => not_affine(part),
             Rule::GuardsDiffer => guarded_again(part),
         }
@@ -151,7 +149,6 @@ impl Rule {
             Rule::DivisorIsNotZero => CheckStop::ZeroDivisor { place },
             Rule::RatesDiffer => CheckStop::RepeatedRate { place },
             Rule::RatesAreConstant => CheckStop::RateEvolves { place },
-            Rule::DomainIsConjunction => CheckStop::DomainForm { place },
             Rule::IsAffine => CheckStop::NotAffine { place },
             Rule::GuardsDiffer => CheckStop::RepeatedGuard { place },
         }
@@ -189,16 +186,6 @@ fn evolves_in_rate(part: Part<'_>) -> Option<Place>
 {
     match part {
         Part::Rate { all, rate, .. } => evolving_name(all, &rate.value),
-        _ => None,
-    }
-}
-
-/// What is no conjunction in a domain.
-fn mixed_domain(part: Part<'_>) -> Option<Place>
-    ensures { result ≡ slice_get (look.mixed_domain (part_of part.entry)) 0 }
-{
-    match part {
-        Part::Domain { domain, .. } => mixed_in(domain),
         _ => None,
     }
 }

@@ -31,8 +31,6 @@ pub enum CheckStop {
     RepeatedRate { place: Place },
     /// This variable evolves, and stands in a rate of its evolution.
     RateEvolves { place: Place },
-    /// This `||` or `!` stands in a domain.
-    DomainForm { place: Place },
     /// This product has evolving variables on both sides, in a domain or in a value that a guard sends.
     NotAffine { place: Place },
     /// This branch is the second on its channel in its direction in one choice.

@@ -3,3 +3,4 @@ pub mod Words
 pub mod Reduced
 pub mod Wide
 pub mod TextLemmas
+pub mod SameNumbers

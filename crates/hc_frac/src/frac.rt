@@ -1,10 +1,10 @@
 //! Fractions whose numerator and denominator have at most 63 bits.
 
-ghost use Rattle.std.specs.Prelude.{◌≡◌, ◌≢◌, ◌<◌, pos, SomeIff, IfSome};
+ghost use Rattle.std.specs.Prelude.{◌≡◌, ◌≢◌, ◌<◌, ◌↔◌, pos, IsTrue, SomeIff, IfSome};
 ghost use Rattle.std.specs.Int.{int_signum};
 ghost use Rattle.hc_frac.specs.Text.{text_of};
 ghost use Rattle.hc_frac.specs.PartsOf.{ArePartsOf};
-ghost use Rattle.hc_rational.specs.Words.{Rational, zero_ℚ, quotient, ratio, IsFrac, ◌+ℚ◌, ◌-ℚ◌, ◌*ℚ◌, ◌/ℚ◌, neg_ℚ, rank, is_zero};
+ghost use Rattle.hc_rational.specs.Words.{Rational, zero_ℚ, quotient, ratio, IsFrac, ◌+ℚ◌, ◌-ℚ◌, ◌*ℚ◌, ◌/ℚ◌, neg_ℚ, rank, lesser, greater, earlier, is_zero};
 
 use crate::lowest::gcd;
 use crate::reading::candidate;
@@ -145,6 +145,33 @@ impl Frac {
         self.num() == 0
     }
 
+    /// Whether the two are the same fraction.
+    pub fn same(self, other: Frac) -> bool
+        ensures { IsTrue result ↔ (self ≡ other) }
+    {
+        self.compare(other).is_eq()
+    }
+
+    /// The lesser of the two.
+    pub fn lesser(self, other: Frac) -> Frac
+        ensures { result ≡ lesser self other }
+    {
+        match self.compare(other) {
+            Ordering::Less | Ordering::Equal => self,
+            Ordering::Greater => other,
+        }
+    }
+
+    /// The greater of the two.
+    pub fn greater(self, other: Frac) -> Frac
+        ensures { result ≡ greater self other }
+    {
+        match self.compare(other) {
+            Ordering::Less | Ordering::Equal => other,
+            Ordering::Greater => self,
+        }
+    }
+
     /// The numerator, and `/` and the denominator where that is not 1.
     pub fn text(self) -> ArrayString<48>
         ensures { result.bytes ≡ text_of self }
@@ -189,8 +216,18 @@ impl Default for Frac {
     }
 }
 
+/// The lesser of two moments, of which one or both may be missing.
+pub fn earlier(one: Option<Frac>, other: Option<Frac>) -> Option<Frac>
+    ensures { result ≡ earlier one other }
+{
+    match (one, other) {
+        (None, moment) | (moment, None) => moment,
+        (Some(first), Some(second)) => Some(first.lesser(second)),
+    }
+}
+
 /// The fraction `n` by `d`, or `None` where it does not fit.
-pub fn reduced(n: i128, d: u128) -> Option<Frac>
+pub(crate) fn reduced(n: i128, d: u128) -> Option<Frac>
     requires { 0 < d }
     ensures { SomeIff result (IsFrac (quotient n d)) (quotient n d) }
 {

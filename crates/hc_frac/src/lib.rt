@@ -9,6 +9,6 @@ mod place;
 mod reading;
 
 pub use decimal::Decimal;
-pub use frac::Frac;
+pub use frac::{Frac, earlier};
 pub use name::Name;
 pub use place::Place;

@@ -3,7 +3,7 @@
 ghost use Rattle.std.specs.Int.{IsGcd};
 
 /// The greatest common divisor of two numbers.
-pub fn gcd(a: u128, b: u128) -> u128
+pub(crate) fn gcd(a: u128, b: u128) -> u128
     ensures { IsGcd a b result }
 {
     let mut x = a;

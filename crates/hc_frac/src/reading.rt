@@ -8,7 +8,7 @@ ghost use Rattle.hc_rational.specs.Words.{Rational, IsFrac};
 use crate::frac::Frac;
 
 /// The fraction that has these bytes as its text, where there is one. Else any fraction or none.
-pub fn candidate(bytes: &[u8]) -> Option<Frac>
+pub(crate) fn candidate(bytes: &[u8]) -> Option<Frac>
     ensures { (q : Rational) → IsFrac q → text_of q ≡ bytes.now → result ≡ Some q }
 {
     let Ok(text) = str::from_utf8(bytes) else {

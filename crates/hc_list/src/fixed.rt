@@ -1,4 +1,4 @@
-ghost use Rattle.std.specs.Prelude.{◌≡◌, ◌+◌, ◌<◌, ◌≤◌, ◌↔◌, [], ◌∷◌, ◌++◌, length, IsTrue};
+ghost use Rattle.std.specs.Prelude.{◌≡◌, ◌<◌, ◌≤◌, [], ◌∷◌, ◌++◌, length, slice_set};
 
 use arrayvec::ArrayVec;
 use std::marker::Model;
@@ -40,15 +40,17 @@ impl<T, const ROOM: usize> FixedList<T, ROOM> {
         self.items.as_slice()
     }
 
-    /// Whether there is no room left.
-    pub fn is_full(&self) -> bool
-        ensures { IsTrue result ↔ (length self.now ≡ ROOM) }
-    {
-        self.items.is_full()
-    }
 }
 
 impl<T: Drop, const ROOM: usize> FixedList<T, ROOM> {
+    /// Puts an element in the place of the one at `index`, which must be there.
+    pub fn set(&mut self, index: usize, element: T)
+        requires { index < length self.old }
+        ensures { self.new ≡ slice_set self.old index element }
+    {
+        self.items.as_mut_slice()[index] = element;
+    }
+
     /// Appends an element. There must be room.
     pub fn push(&mut self, element: T)
         requires { length self.old < ROOM }

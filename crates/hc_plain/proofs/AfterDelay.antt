@@ -7,7 +7,7 @@ use Rattle.hc_term.specs.declared.model.Mark.{Mark}
 use Rattle.hc_term.specs.declared.model.Mark.TheVariants.{Going, Arrived}
 use Rattle.hc_term.specs.declared.stmt.Stmt.{Stmt}
 use Rattle.hc_term.specs.Communication.{moved, moved_at}
-use Rattle.hc_term.specs.Plain.{are_plain}
+use Rattle.hc_plain.specs.Plain.{are_plain}
 use Rattle.hc_plain.specs.States.{all_plain}
 
 moved_at-todo : (d : Rational) (p : ProcessState) (mark : Mark) (todo : List Stmt) → (moved_at d p mark todo).todo ≡ p.todo

@@ -13,7 +13,7 @@ use Rattle.hc_term.specs.declared.post.Post.{Post}
 use Rattle.hc_term.specs.Value.{Store}
 use Rattle.hc_term.specs.Process.{wants, is_done, bound}
 use Rattle.hc_term.specs.Offers.{post, post_at}
-use Rattle.hc_term.specs.Posts.{first_of, gift, wishes, numbered, sender, receiver, meeting_by, meeting_on, meeting_from, first_meeting}
+use Rattle.hc_term.specs.Posts.{first_of, sent_on, receives_on, numbered, sender, receiver, meeting_by, meeting_on, meeting_from, first_meeting}
 use Rattle.hc_term.specs.declared.task.Task.{Task}
 use Rattle.hc_term.specs.Silent.{Outcome, silent}
 use Rattle.hc_term.specs.Step.{silent_by}
@@ -82,13 +82,13 @@ turn-silent t clock ps p d o quiet wanted h =
 -- ---- the two that meet
 
 -- a process that has ended offers nothing
-wishes-some : (clock : Rational) (s : Store) (b : Option Rational) (mark : Mark) (todo : List Stmt) (c : ℕ) →
-    wishes c (post_at clock s b mark todo).offers ≡ true → not (is_done todo) ≡ true
-wishes-some clock s b mark [] c h = cc
-wishes-some clock s b mark (head ∷ rest) c h = refl
+receives_on-some : (clock : Rational) (s : Store) (b : Option Rational) (mark : Mark) (todo : List Stmt) (c : ℕ) →
+    receives_on c (post_at clock s b mark todo).offers ≡ true → not (is_done todo) ≡ true
+receives_on-some clock s b mark [] c h = cc
+receives_on-some clock s b mark (head ∷ rest) c h = refl
 
 receiver_next : (clock : Rational) (c from : ℕ) (q : ProcessState) (qs : List ProcessState) (r : ℕ) (b : Bool) →
-    wishes c (post clock q).offers ≡ b →
+    receives_on c (post clock q).offers ≡ b →
     (receiver c (from + 1) (posts_of clock qs) ≡ Some r → (from + 1 ≤ r) × (is_ready_to_receive (slice_get qs (r - (from + 1))) ≡ true)) →
     (if b then Some from else receiver c (from + 1) (posts_of clock qs)) ≡ Some r →
     (from ≤ r) × (is_ready_to_receive (slice_get (q ∷ qs) (r - from)) ≡ true)
@@ -96,7 +96,7 @@ receiver_next clock c from q qs r true h ih e =
     let same : from ≡ r = cc in
     let none : r - from ≡ 0 = omega (arith, same) in (
       omega (arith, same),
-      subst (λ (n : ℕ). is_ready_to_receive (slice_get (q ∷ qs) n) ≡ true) (sym none) (wishes-some clock q.store (bound q) q.mark q.todo c h),
+      subst (λ (n : ℕ). is_ready_to_receive (slice_get (q ∷ qs) n) ≡ true) (sym none) (receives_on-some clock q.store (bound q) q.mark q.todo c h),
     )
 receiver_next clock c from q qs r false h ih e =
     let k = ih e in
@@ -107,7 +107,7 @@ receiver-sound : (clock : Rational) (c from : ℕ) (ps : List ProcessState) (r :
     (from ≤ r) × (is_ready_to_receive (slice_get ps (r - from)) ≡ true)
 receiver-sound clock c from [] r e = cc
 receiver-sound clock c from (q ∷ qs) r e =
-    receiver_next clock c from q qs r (wishes c (post clock q).offers) refl (receiver-sound clock c (from + 1) qs r) e
+    receiver_next clock c from q qs r (receives_on c (post clock q).offers) refl (receiver-sound clock c (from + 1) qs r) e
 
 abbrev number_or : ℕ → Option (ℕ × Rational) → ℕ
 number_or n None = n
@@ -123,7 +123,7 @@ sender_next c from None qs s ih e = let h = ih e in omega (arith, h)
 
 sender-sound : (c from : ℕ) (ps : List Post) (s : ℕ × Rational) → sender c from ps ≡ Some s → s.0 < from + length ps
 sender-sound c from [] s e = cc
-sender-sound c from (q ∷ qs) s e = sender_next c from (gift c q.offers) qs s (sender-sound c (from + 1) qs s) e
+sender-sound c from (q ∷ qs) s e = sender_next c from (sent_on c q.offers) qs s (sender-sound c (from + 1) qs s) e
 
 on_sound : (clock : Rational) (c : ℕ) (ps : List ProcessState) (so : Option (ℕ × Rational)) (ro : Option ℕ) (m : Meeting) →
     sender c 0 (posts_of clock ps) ≡ so → receiver c 0 (posts_of clock ps) ≡ ro → meeting_by c so ro ≡ Some m → CanMeet m ps

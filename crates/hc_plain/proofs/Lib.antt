@@ -2,7 +2,6 @@ pub mod MovesFit
 pub mod NextMeeting
 pub mod Places
 pub mod DelayLength
-pub mod Fronts
 pub mod AfterDelay
 pub mod Resting
 pub mod Found

@@ -8,7 +8,7 @@ use Rattle.hc_term.specs.declared.system.Process.{Process}
 use Rattle.hc_term.specs.declared.system.System.{System}
 use Rattle.hc_term.specs.Rules.{are_few, keeps_rules}
 use Rattle.hc_term.specs.Step.{opening_of}
-use Rattle.hc_term.specs.Plain.{are_plain, is_plain_system}
+use Rattle.hc_plain.specs.Plain.{are_plain, is_plain_system}
 use Rattle.hc_plain.specs.States.{IsPlain, all_plain}
 
 and_left : (a b : Bool) → (a && b) ≡ true → a ≡ true

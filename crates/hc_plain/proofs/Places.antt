@@ -34,11 +34,6 @@ module _ {X : Type 0} (test : X → Bool) where
       and_both (test y) (list_all test (set ys p x)) (and_left (test y) (list_all test ys) h)
       (all-set ys p x (and_right (test y) (list_all test ys) h) k)
 
-  pub all-get_or : (xs : List X) (p : ℕ) (d : X) → p < length xs → list_all test xs ≡ true → test (get_or xs p d) ≡ true
-  all-get_or [] p d b h = absurd (omega arith)
-  all-get_or (y ∷ ys) zero d b h = and_left (test y) (list_all test ys) h
-  all-get_or (y ∷ ys) (suc p) d b h = all-get_or ys p d (omega arith) (and_right (test y) (list_all test ys) h)
-
 pub ready-within : (xs : List ProcessState) (p : ℕ) → is_ready_to_receive (slice_get xs p) ≡ true → p < length xs
 ready-within [] p h = cc
 ready-within (x ∷ xs) zero h = omega arith

@@ -1,3 +1,4 @@
+pub mod Plain
 pub mod Waiting
 pub mod States
 pub mod Turns

@@ -10,7 +10,7 @@ use Rattle.hc_term.specs.Process.{is_done}
 use Rattle.hc_term.specs.Communication.{sent, received}
 use Rattle.hc_term.specs.Step.{changed}
 use Rattle.hc_term.specs.Offers.{post}
-use Rattle.hc_term.specs.Plain.{are_plain}
+use Rattle.hc_plain.specs.Plain.{are_plain}
 
 -- all that is still to do is plain
 abbrev pub all_plain : List ProcessState → Bool

@@ -14,16 +14,6 @@ use hc_frac::Frac;
 use hc_term::ProcessState;
 use std::cmp::Ordering;
 
-fn lesser_of(left: Frac, right: Frac) -> Frac
-    ensures { result ≡ lesser left right }
-{
-    match left.compare(right) {
-        Ordering::Less => left,
-        Ordering::Equal => left,
-        Ordering::Greater => right,
-    }
-}
-
 /// The same fraction, which fits.
 fn known(number: Frac) -> Frac
     ensures same { result ≡ number }
@@ -68,7 +58,7 @@ pub(crate) fn length_of(clock: Frac, horizon: Frac, least: Option<Frac>) -> Opti
     match (least, horizon.sub(clock)) {
         (None, Some(rest)) => delay_by(clock, rest),
         (None, None) => None,
-        (Some(bound), Some(rest)) => delay_by(clock, lesser_of(bound, rest)),
+        (Some(bound), Some(rest)) => delay_by(clock, bound.lesser(rest)),
         (Some(bound), None) => delay_to_bound(clock, horizon, bound),
     }
 }

@@ -8,9 +8,9 @@ ghost use Rattle.hc_rational.specs.Words.{◌-ℚ◌, IsFrac};
 ghost use Rattle.hc_term.specs.Process.{bound, is_due, wants};
 ghost use Rattle.hc_term.specs.Silent.{silent, Did};
 ghost use Rattle.hc_term.specs.Offers.{post};
-ghost use Rattle.hc_term.specs.Posts.{gift, wishes, post_fits};
+ghost use Rattle.hc_term.specs.Posts.{sent_on, receives_on, post_fits};
 ghost use Rattle.hc_term.specs.Communication.{sent, received, received_here, moved};
-ghost use Rattle.hc_term.specs.Plain.{is_plain, are_plain};
+ghost use Rattle.hc_plain.specs.Plain.{is_plain, are_plain};
 
 use crate::state::bound_of;
 use hc_frac::Frac;

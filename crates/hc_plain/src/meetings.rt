@@ -6,7 +6,7 @@ ghost use Rattle.hc_term.specs.Posts.{sender, receiver, meeting_on, first_meetin
 ghost use Rattle.hc_term.specs.Canonical.{wanting_from};
 ghost use Rattle.hc_plain.specs.States.{all_plain, posts_of};
 
-use crate::state::{gift_of, is_wishing, wants_step};
+use crate::state::{offer_sent_on, is_receiving, wants_step};
 use hc_frac::Frac;
 use hc_term::{Meeting, ProcessState};
 
@@ -18,7 +18,7 @@ fn sender_on(states: &[ProcessState], clock: Frac, channel: u32) -> Option<(u32,
 {
     let mut number = 0;
     for state in states {
-        if let Some(value) = gift_of(state, clock, channel) {
+        if let Some(value) = offer_sent_on(state, clock, channel) {
             return Some((number, value));
         }
         number += 1;
@@ -34,7 +34,7 @@ fn receiver_on(states: &[ProcessState], clock: Frac, channel: u32) -> Option<u32
 {
     let mut number = 0;
     for state in states {
-        if is_wishing(state, clock, channel) {
+        if is_receiving(state, clock, channel) {
             return Some(number);
         }
         number += 1;

@@ -2,7 +2,6 @@
 
 ghost use Rattle.std.specs.Prelude.{◌≡◌, ◌≤◌, length, IsTrue, not};
 ghost use Rattle.std.specs.List.{list_all};
-ghost use Rattle.hc_term.specs.EndMoment.{earlier};
 ghost use Rattle.hc_term.specs.Process.{is_done};
 ghost use Rattle.hc_term.specs.Step.{all_ended};
 ghost use Rattle.hc_term.specs.Offers.{post};
@@ -11,23 +10,8 @@ ghost use Rattle.hc_plain.specs.States.{all_plain, posts_of};
 
 use crate::exchange::can_move;
 use crate::state::bound_of;
-use hc_frac::Frac;
+use hc_frac::{Frac, earlier};
 use hc_term::ProcessState;
-use std::cmp::Ordering;
-
-fn earlier_of(one: Option<Frac>, other: Option<Frac>) -> Option<Frac>
-    ensures { result ≡ earlier one other }
-{
-    match (one, other) {
-        (None, _) => other,
-        (Some(_), None) => one,
-        (Some(first), Some(second)) => match first.compare(second) {
-            Ordering::Greater => Some(second),
-            Ordering::Less => Some(first),
-            Ordering::Equal => Some(first),
-        },
-    }
-}
 
 /// The least bound of all processes.
 pub(crate) fn least_bound_of(states: &[ProcessState], clock: Frac) -> Option<Frac>
@@ -36,7 +20,7 @@ pub(crate) fn least_bound_of(states: &[ProcessState], clock: Frac) -> Option<Fra
 {
     match states {
         [] => None,
-        [first, rest @ ..] => earlier_of(bound_of(first), least_bound_of(rest, clock)),
+        [first, rest @ ..] => earlier(bound_of(first), least_bound_of(rest, clock)),
     }
 }
 

@@ -1,7 +1,7 @@
 //! Which statements are plain.
 
 ghost use Rattle.std.specs.Prelude.{◌≡◌};
-ghost use Rattle.hc_term.specs.Plain as spec;
+ghost use Rattle.hc_plain.specs.Plain as spec;
 
 use hc_term::{Expr, Io, Stmt, System};
 

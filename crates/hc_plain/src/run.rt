@@ -5,7 +5,7 @@ ghost use Rattle.hc_rational.specs.Words.{zero_ℚ};
 ghost use Rattle.hc_term.specs.Step.{opening, opening_of};
 ghost use Rattle.hc_plain.specs.States.{IsPlain, configuration};
 ghost use Rattle.hc_term.specs.Canonical.{canonical};
-ghost use Rattle.hc_term.specs.Plain.{are_plain, is_plain_system};
+ghost use Rattle.hc_plain.specs.Plain.{are_plain, is_plain_system};
 ghost use Rattle.hc_plain.specs.Runs.{IsCanonical};
 
 use crate::copies::copy_of;

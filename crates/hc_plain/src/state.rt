@@ -4,25 +4,14 @@ ghost use Rattle.std.specs.Prelude.{◌≡◌, ℕ, ◌<◌, length, ◌↔◌, 
 ghost use Rattle.hc_term.specs.declared.model.Mark.TheVariants.{Going};
 ghost use Rattle.hc_rational.specs.Words.{fits, greater, is_positive};
 ghost use Rattle.hc_term.specs.Process.{bound, is_due, wants};
-ghost use Rattle.hc_term.specs.Silent.{silent, Did, Unfit as TooLarge, due_fits};
+ghost use Rattle.hc_term.specs.Silent.{silent, Did, Unfit as DoesNotFit, due_fits};
 ghost use Rattle.hc_term.specs.Offers.{post};
-ghost use Rattle.hc_term.specs.Posts.{gift, wishes, bound_fits};
+ghost use Rattle.hc_term.specs.Posts.{sent_on, receives_on, bound_fits};
 ghost use Rattle.hc_term.specs.Communication.{sent, received, moved};
-ghost use Rattle.hc_term.specs.Plain.{are_plain};
+ghost use Rattle.hc_plain.specs.Plain.{are_plain};
 
 use hc_frac::Frac;
 use hc_term::{Expr, Io, Mark, ProcessState, Stmt, Unfit};
-use std::cmp::Ordering;
-
-fn greater_of(left: Frac, right: Frac) -> Frac
-    ensures { result ≡ greater left right }
-{
-    match left.compare(right) {
-        Ordering::Less => right,
-        Ordering::Equal => right,
-        Ordering::Greater => left,
-    }
-}
 
 /// How long the process may stay where it is, or `None` where time doesn't move it on.
 pub(crate) fn bound_of(state: &ProcessState) -> Option<Frac>
@@ -33,7 +22,7 @@ pub(crate) fn bound_of(state: &ProcessState) -> Option<Frac>
         return None;
     };
     match state.todo.as_slice() {
-        [Stmt::Wait { .. }, ..] => Some(greater_of(Frac::zero(), left)),
+        [Stmt::Wait { .. }, ..] => Some(Frac::zero().greater(left)),
         _ => None,
     }
 }
@@ -56,9 +45,9 @@ pub(crate) fn wants_step(state: &ProcessState) -> bool
 }
 
 /// The value that the process offers to send on the channel.
-pub(crate) fn gift_of(state: &ProcessState, clock: Frac, channel: u32) -> Option<Frac>
+pub(crate) fn offer_sent_on(state: &ProcessState, clock: Frac, channel: u32) -> Option<Frac>
     requires { IsTrue (are_plain state.now.todo) }
-    ensures { result ≡ gift channel (post clock state.now).offers }
+    ensures { result ≡ sent_on channel (post clock state.now).offers }
 {
     let Mark::Arrived { .. } = state.mark else {
         return None;
@@ -78,9 +67,9 @@ pub(crate) fn gift_of(state: &ProcessState, clock: Frac, channel: u32) -> Option
 }
 
 /// Whether the process offers to receive on the channel.
-pub(crate) fn is_wishing(state: &ProcessState, clock: Frac, channel: u32) -> bool
+pub(crate) fn is_receiving(state: &ProcessState, clock: Frac, channel: u32) -> bool
     requires { IsTrue (are_plain state.now.todo) }
-    ensures { result ≡ wishes channel (post clock state.now).offers }
+    ensures { result ≡ receives_on channel (post clock state.now).offers }
 {
     let Mark::Arrived { .. } = state.mark else {
         return false;
@@ -112,7 +101,7 @@ pub(crate) fn step_on(state: &mut ProcessState, clock: Frac) -> Result<(), Unfit
     requires going { state.old.mark ≡ Going }
     requires some { 0 < length state.old.todo }
     ensures taken { OnOk result ((seed p : ℕ) → silent seed p clock state.old ≡ Did None state.new) }
-    ensures unfit { OnErr result ((seed p : ℕ) → silent seed p clock state.old ≡ TooLarge) }
+    ensures unfit { OnErr result ((seed p : ℕ) → silent seed p clock state.old ≡ DoesNotFit) }
     ensures kept { OnErr result (state.new ≡ state.old) }
     ensures plain { IsTrue (are_plain state.new.todo) }
 {
@@ -132,7 +121,7 @@ pub(crate) fn step_on(state: &mut ProcessState, clock: Frac) -> Result<(), Unfit
             time: Expr::Number(time),
         } => {
             let left = *time;
-            if !is_due_fitting(clock, greater_of(Frac::zero(), left)) {
+            if !is_due_fitting(clock, Frac::zero().greater(left)) {
                 return Err(Unfit);
             }
             state.mark = Mark::Arrived { left };

@@ -8,10 +8,10 @@ ghost use Rattle.hc_plain.specs.States.{IsPlain, CanMeet, all_met, configuration
 ghost use Rattle.hc_plain.specs.Turns.{Follows};
 ghost use Rattle.std.specs.Prelude.{◌≡◌, ℕ, ◌<◌, ◌≤◌, length, slice_get, IsTrue, None, Some, OnOk, OnErr, true, false};
 ghost use Rattle.hc_term.specs.Process.{bound, wants};
-ghost use Rattle.hc_term.specs.Silent.{silent, due_fits, Did, Unfit as TooLarge};
+ghost use Rattle.hc_term.specs.Silent.{silent, due_fits, Did, Unfit as DoesNotFit};
 ghost use Rattle.hc_term.specs.Communication.{sent, received};
 ghost use Rattle.hc_term.specs.Step.{changed};
-ghost use Rattle.hc_term.specs.Plain.{are_plain};
+ghost use Rattle.hc_plain.specs.Plain.{are_plain};
 ghost use Rattle.hc_plain.specs.States.{all_plain, is_ready_to_receive};
 
 use crate::delay::{length_of, move_all};
@@ -35,7 +35,7 @@ pub(crate) fn take_step(state: &mut ProcessState, clock: Frac) -> Result<(), Unf
     requires plain { IsTrue (are_plain state.old.todo) }
     requires wants { wants state.old ≡ true }
     ensures taken { OnOk result ((seed p : ℕ) → silent seed p clock state.old ≡ Did None state.new) }
-    ensures unfit { OnErr result ((seed p : ℕ) → silent seed p clock state.old ≡ TooLarge) }
+    ensures unfit { OnErr result ((seed p : ℕ) → silent seed p clock state.old ≡ DoesNotFit) }
     ensures kept { OnErr result (state.new ≡ state.old) }
     ensures plain { IsTrue (are_plain state.new.todo) }
 {

@@ -1,5 +1,5 @@
 -- The order of rational numbers.
-use Rattle.std.specs.Prelude.{◌≡◌, Bool, ◌==◌, ◌↔◌, ◌⊎◌, pos, ◌*ℤ◌, ◌≤ℤ◌, ◌<ℤ◌, int_lt, unsigned_abs}
+use Rattle.std.specs.Prelude.{◌≡◌, Bool, Option, Some, None, ◌==◌, ◌↔◌, ◌⊎◌, pos, ◌*ℤ◌, ◌≤ℤ◌, ◌<ℤ◌, int_lt, unsigned_abs}
 use Rattle.std.specs.declared.cmp.Ordering.{Ordering}
 use Rattle.std.specs.declared.cmp.Ordering.TheVariants.{Less, Equal, Greater}
 use Rattle.std.specs.Ordering.{int_cmp}
@@ -37,6 +37,12 @@ lesser q r = by_rank (rank q r) q r
 -- the greater of the two
 abbrev pub greater : Rational → Rational → Rational
 greater q r = by_rank (rank q r) r q
+
+-- the lesser of two moments, of which one or both may be missing
+abbrev pub earlier : Option Rational → Option Rational → Option Rational
+earlier None e = e
+earlier (Some d) None = Some d
+earlier (Some d) (Some e) = Some (lesser d e)
 
 -- s is one of q and r, and at most each of them
 pub record IsLesser (q r s : Rational) : Type 0 where

@@ -17,7 +17,7 @@ use Rattle.hc_term.specs.declared.model.ProcessState.{ProcessState}
 use Rattle.hc_term.specs.Value.{Store}
 use Rattle.hc_term.specs.Process.{Layer, bound_here, bound_at}
 use Rattle.hc_term.specs.Offers.{offer_of, offers_of, offers_here, post_at}
-use Rattle.hc_term.specs.Posts.{first_of, gift_of, gift, is_wish, wishes}
+use Rattle.hc_term.specs.Posts.{first_of, offer_sent_on, sent_on, offer_receives_on, receives_on}
 use Rattle.hc_term.specs.Communication as comm
 use Rattle.hc_code.specs.declared.code.Way.{Way}
 use Rattle.hc_code.specs.declared.code.Instr.{Instr}
@@ -118,19 +118,19 @@ module _ (t : Table) (c : ℕ) (s : Store) (rest : List Stmt) where
   sent_if false v next front other others later at ih h = ih h
 
   sent_step : (io : Io) (next : ℕ) (front other : List Stmt) (others : Option Rational) (later : Option ℕ) → At t next (front ++ rest) →
-      (others ≢ None → LeadsBehind t later (other ++ rest)) → first_of (gift_of c (offer_of s [] io)) others ≢ None →
+      (others ≢ None → LeadsBehind t later (other ++ rest)) → first_of (offer_sent_on c (offer_of s [] io)) others ≢ None →
       LeadsBehind t (first_of (if_sends c next io) later) (comm.if_sends c io front other ++ rest)
   sent_step (Send channel value) next front other others later at ih h = sent_if (channel == c) _ next front other others later at ih h
   sent_step (Receive channel variable) next front other others later at ih h = ih h
 
-  ways_sent : (ws : List Way) (bs : List Branch) → WaysAgree t rest ws bs → gift c (offers_of s [] bs) ≢ None →
+  ways_sent : (ws : List Way) (bs : List Branch) → WaysAgree t rest ws bs → sent_on c (offers_of s [] bs) ≢ None →
       LeadsBehind t (sent_way c ws) (comm.sent_branch c bs ++ rest)
   ways_sent [] [] w h = absurd (h refl)
   ways_sent [] (b ∷ bs) w h = absurd w
   ways_sent (x ∷ ws) [] w h = absurd w
   ways_sent (x ∷ ws) (b ∷ bs) w h =
       subst (λ (io : Io). LeadsBehind t (first_of (if_sends c x.next io) (sent_way c ws)) (comm.sent_branch c (b ∷ bs) ++ rest)) (sym w.0)
-      (sent_step (out-Branch b).io x.next (out-Branch b).body (comm.sent_branch c bs) (gift c (offers_of s [] bs)) (sent_way c ws) w.1
+      (sent_step (out-Branch b).io x.next (out-Branch b).body (comm.sent_branch c bs) (sent_on c (offers_of s [] bs)) (sent_way c ws) w.1
       (ways_sent ws bs w.2) h)
 
   abbrev nothing : List Stmt
@@ -144,7 +144,7 @@ module _ (t : Table) (c : ℕ) (s : Store) (rest : List Stmt) where
   nothing_in_front (Send channel value) = nothing_by (channel == c)
   nothing_in_front (Receive channel variable) = refl
 
-  one_sent : (io : Io) (next : ℕ) → At t next rest → gift c (offer_of s [] io ∷ []) ≢ None →
+  one_sent : (io : Io) (next : ℕ) → At t next rest → sent_on c (offer_of s [] io ∷ []) ≢ None →
       LeadsBehind t (sent_way c (record { io = io; next = next } ∷ [])) rest
   one_sent io next at h =
       subst (λ (front : List Stmt). LeadsBehind t (sent_way c (record { io = io; next = next } ∷ [])) (front ++ rest)) (nothing_in_front io)
@@ -155,7 +155,7 @@ pub no_evolution : {A : Type 0} (n : ℕ) (i : Instr) (rates : List Rate) (test 
 no_evolution n i rates test ways next e v = absurd (false≢true (sym (ap (has_values n) e) ∙ v))
 
 sent_here : (t : Table) (c n : ℕ) (s : Store) (b : Option Rational) (i : Instr) (head : Stmt) (rest : List Stmt) (l : Layer) → IsTrue (has_values n i) →
-    AgreesHere t i head rest l → gift c (offers_here s b l) ≢ None → LeadsBehind t (sent_way c (ways_of i)) (comm.sent_here c l ++ rest)
+    AgreesHere t i head rest l → sent_on c (offers_here s b l) ≢ None → LeadsBehind t (sent_way c (ways_of i)) (comm.sent_here c l ++ rest)
 sent_here t c n s b i head rest (Stmt-F.Io io) v h g =
     subst (λ (j : Instr). LeadsBehind t (sent_way c (ways_of j)) rest) (sym h.1) (one_sent t c s rest io h.0 h.2 g)
 sent_here t c n s b i head rest (Stmt-F.Choice bs) v h g =
@@ -172,7 +172,7 @@ sent_here t c n s b i head rest (Stmt-F.Forever body) v h g = absurd (g refl)
 
 -- where a process sends that offers to send on the channel
 pub sent_leads : (t : Table) (c n : ℕ) (clock : Rational) (s : Store) (m : Mark) (todo : List Stmt) (i : Instr) → IsTrue (has_values n i) → Agrees t i todo →
-    gift c (post_at clock s (bound_at s m todo) m todo).offers ≢ None → LeadsBehind t (sent_way c (ways_of i)) (comm.sent_at c todo)
+    sent_on c (post_at clock s (bound_at s m todo) m todo).offers ≢ None → LeadsBehind t (sent_way c (ways_of i)) (comm.sent_at c todo)
 sent_leads t c n clock s m [] i v h g = absurd (g refl)
 sent_leads t c n clock s Going (head ∷ rest) i v h g = absurd (g refl)
 sent_leads t c n clock s (Arrived left) (head ∷ rest) i v h g = sent_here t c n s (bound_here s left (out-Stmt head)) i head rest (out-Stmt head) v h g
@@ -198,23 +198,23 @@ module _ (t : Table) (c : ℕ) (s : Store) (rest : List Stmt) where
   received_if false variable next front other others later at ih h = ih h
 
   received_step : (io : Io) (next : ℕ) (front : List Stmt) (other : comm.Taken) (others : Bool) (later : Option Taken) → At t next (front ++ rest) →
-      (others ≡ true → Behind t later other rest) → (is_wish c (offer_of s [] io) || others) ≡ true →
+      (others ≡ true → Behind t later other rest) → (offer_receives_on c (offer_of s [] io) || others) ≡ true →
       Behind t (first_of (if_receives c next io) later) (comm.if_receives c io front other) rest
   received_step (Send channel value) next front other others later at ih h = ih h
   received_step (Receive channel variable) next front other others later at ih h = received_if (channel == c) variable next front other others later at ih h
 
-  ways_received : (ws : List Way) (bs : List Branch) → WaysAgree t rest ws bs → wishes c (offers_of s [] bs) ≡ true →
+  ways_received : (ws : List Way) (bs : List Branch) → WaysAgree t rest ws bs → receives_on c (offers_of s [] bs) ≡ true →
       Behind t (received_way c ws) (comm.received_branch c bs) rest
   ways_received [] [] w h = absurd (false≢true h)
   ways_received [] (b ∷ bs) w h = absurd w
   ways_received (x ∷ ws) [] w h = absurd w
   ways_received (x ∷ ws) (b ∷ bs) w h =
       subst (λ (io : Io). Behind t (first_of (if_receives c x.next io) (received_way c ws)) (comm.received_branch c (b ∷ bs)) rest) (sym w.0)
-      (received_step (out-Branch b).io x.next (out-Branch b).body (comm.received_branch c bs) (wishes c (offers_of s [] bs)) (received_way c ws) w.1
+      (received_step (out-Branch b).io x.next (out-Branch b).body (comm.received_branch c bs) (receives_on c (offers_of s [] bs)) (received_way c ws) w.1
       (ways_received ws bs w.2) h)
 
 received_here : (t : Table) (c n : ℕ) (s : Store) (b : Option Rational) (i : Instr) (head : Stmt) (rest : List Stmt) (l : Layer) → IsTrue (has_values n i) →
-    AgreesHere t i head rest l → wishes c (offers_here s b l) ≡ true → Behind t (received_way c (ways_of i)) (comm.received_here c l) rest
+    AgreesHere t i head rest l → receives_on c (offers_here s b l) ≡ true → Behind t (received_way c (ways_of i)) (comm.received_here c l) rest
 received_here t c n s b i head rest (Stmt-F.Io io) v h g =
     subst (λ (j : Instr). Behind t (received_way c (ways_of j)) (comm.if_receives c io [] (0, [])) rest) (sym h.1)
     (received_step t c s rest io h.0 [] (0, []) false None h.2 (λ e. absurd (false≢true e)) g)
@@ -238,7 +238,7 @@ pub record Receives (t : Table) (c : ℕ) (v : Rational) (p : ProcessState) (tod
   pub takes : TakesBehind t found variable rest
 
 pub received_leads : (t : Table) (c n : ℕ) (clock v : Rational) (p : ProcessState) (s : Store) (m : Mark) (todo : List Stmt) (i : Instr) → IsTrue (has_values n i) →
-    Agrees t i todo → wishes c (post_at clock s (bound_at s m todo) m todo).offers ≡ true → Receives t c v p todo (received_way c (ways_of i))
+    Agrees t i todo → receives_on c (post_at clock s (bound_at s m todo) m todo).offers ≡ true → Receives t c v p todo (received_way c (ways_of i))
 received_leads t c n clock v p s m [] i u h g = absurd (false≢true g)
 received_leads t c n clock v p s Going (head ∷ rest) i u h g = absurd (false≢true g)
 received_leads t c n clock v p s (Arrived left) (head ∷ rest) i u h g = record {

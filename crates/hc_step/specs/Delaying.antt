@@ -1,11 +1,7 @@
 -- What a delay leaves of what a process shows.
-use Rattle.std.specs.Prelude.{Bool, ◌&&◌, if◌then◌else◌, Option, Some, None}
-use Rattle.hc_rational.specs.Words.{Rational, ◌+ℚ◌, ◌-ℚ◌, ◌*ℚ◌, fits, is_positive}
+use Rattle.std.specs.Prelude.{if◌then◌else◌, Option, Some, None}
+use Rattle.hc_rational.specs.Words.{Rational, ◌-ℚ◌, is_positive}
 use Rattle.hc_term.specs.declared.post.Post.{Post}
-
--- whether the way along a slope fits, and the value after it
-abbrev pub way_fits : Rational → Rational → Rational → Bool
-way_fits by at slope = fits (slope *ℚ by) && fits (at +ℚ slope *ℚ by)
 
 -- what is left of a bound that has not run out
 abbrev pub left_of : Rational → Option Rational → Option Rational

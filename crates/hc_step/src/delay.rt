@@ -1,71 +1,12 @@
 //! What a delay does to one process.
 
-ghost use Rattle.std.specs.Prelude.{◌≡◌, ◌||◌, IsTrue};
-ghost use Rattle.std.specs.List.{list_all};
-ghost use Rattle.hc_term.specs.Posts.{bound_fits, moving_fits, offer_fits, post_fits};
+ghost use Rattle.std.specs.Prelude.{◌≡◌, IsTrue};
+ghost use Rattle.hc_term.specs.Posts.{bound_fits, post_fits};
 ghost use Rattle.hc_step.specs.Delaying as spec;
 
 use crate::local::Local;
 use hc_frac::Frac;
-use hc_term::{Mark, Moving, Offer, Post};
-
-/// Whether the way along a slope fits, and the value after it.
-fn way_fits(by: Frac, at: Frac, slope: Frac) -> bool
-    ensures { result ≡ spec.way_fits by at slope }
-{
-    match slope.mul(by) {
-        Some(way) => at.add(way).is_some(),
-        None => false,
-    }
-}
-
-/// Whether the ways and new values of these variables fit.
-fn moving_fit(moving: &[Moving], by: Frac) -> bool
-    ensures { result ≡ list_all (moving_fits by) moving.now }
-{
-    for one in moving {
-        if !way_fits(by, one.at, one.rate) {
-            return false;
-        }
-    }
-    true
-}
-
-/// Whether those of an offered value fit.
-fn offer_fit(offer: &Offer, by: Frac) -> bool
-    ensures { result ≡ offer_fits by offer.now }
-{
-    match offer {
-        Offer::Send {
-            channel: _,
-            at,
-            slope,
-        } => way_fits(by, *at, *slope),
-        Offer::Receive { .. } => true,
-    }
-}
-
-/// Whether those of all offered values fit.
-fn offers_fit(offers: &[Offer], by: Frac) -> bool
-    ensures { result ≡ list_all (offer_fits by) offers.now }
-{
-    for offer in offers {
-        if !offer_fit(offer, by) {
-            return false;
-        }
-    }
-    true
-}
-
-/// Whether what is left of a bound fits.
-fn bound_fit(bound: Option<Frac>, by: Frac) -> bool
-    ensures { result ≡ bound_fits by bound }
-{
-    match bound {
-        Some(bound) => bound.sub(by).is_some(),
-        None => true,
-    }
-}
+use hc_term::Mark;
 
 /// What is left of a bound that hasn't run out.
 fn left_of(bound: Option<Frac>, by: Frac) -> Option<Frac>
@@ -101,11 +42,7 @@ impl Local {
     pub fn can_move(&self, by: Frac) -> bool
         ensures { result ≡ post_fits by self.now.post }
     {
-        let moving = self.post.moving.as_slice();
-        let ways = moving_fit(moving, by);
-        let values = moving.is_empty() || offers_fit(self.post.offers.as_slice(), by);
-        let left = bound_fit(self.post.bound, by);
-        ways & values & left
+        self.post.fits(by)
     }
 
     /// Lets so many time units pass, at most to the bound.

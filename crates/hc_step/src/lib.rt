@@ -1,7 +1,6 @@
 //! What a process keeps between its steps, and the steps of one process on its flat code.
 #![tactic(auto)]
 
-mod copies;
 mod delay;
 mod laws;
 mod local;

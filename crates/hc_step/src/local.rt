@@ -2,14 +2,11 @@
 
 ghost use Rattle.std.specs.Prelude.{◌≡◌, ◌≤◌, ◌<◌, length, take, replicate, IsTrue};
 ghost use Rattle.hc_rational.specs.Words.{zero_ℚ};
-ghost use Rattle.hc_term.specs.Offers.{going_post};
 ghost use Rattle.hc_step.specs.Usable.{is_usable_code};
 
-use crate::copies::copy_post;
 use crate::look::{Move, look_arrived, look_at, takes_left};
 use hc_code::ProcCode;
 use hc_frac::Frac;
-use hc_list::FixedList;
 use hc_term::{Mark, Phase, Post, Unfit};
 use std::alloc::{AllocError, Global};
 
@@ -34,19 +31,6 @@ fn zeros() -> [Frac; 64]
 {
     let zero = Frac::zero();
     [zero; 64]
-}
-
-/// What a going process shows.
-fn going() -> Post
-    ensures { result ≡ going_post }
-{
-    Post {
-        phase: Phase::Going,
-        bound: None,
-        due: None,
-        moving: FixedList::new(),
-        offers: FixedList::new(),
-    }
 }
 
 impl Local {
@@ -84,7 +68,7 @@ impl Local {
             choices: 0,
             store: zeros(),
             mark: Mark::Going,
-            post: going(),
+            post: Post::going(),
         })
     }
 
@@ -98,7 +82,7 @@ impl Local {
         to.choices = self.choices;
         to.store = self.store;
         to.mark = self.mark;
-        copy_post(&self.post, &mut to.post);
+        self.post.copy_into(&mut to.post);
     }
 
     /// The place in the code.

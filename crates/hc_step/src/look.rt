@@ -10,7 +10,6 @@ ghost use Rattle.hc_step.specs.Looking.{seen, seen_arrived, arriving};
 use hc_code::{Instr, Way};
 use hc_frac::Frac;
 use hc_term::{Io, Unfit, holds, value};
-use std::cmp::Ordering;
 
 /// What a silent step does: it goes on at a place, and may set a variable, log a value or take a side of a choice
 /// before it does; or it arrives, with so much left to wait.
@@ -46,16 +45,6 @@ pub(crate) fn takes_left(seed: u64, process: u32, choices: u32) -> bool
     (seed >> bit) % 2 == 0
 }
 
-pub(crate) fn greater_of(left: Frac, right: Frac) -> Frac
-    ensures { result ≡ greater left right }
-{
-    match left.compare(right) {
-        Ordering::Less => right,
-        Ordering::Equal => right,
-        Ordering::Greater => left,
-    }
-}
-
 /// Whether the moment fits at which a bound runs out that is greater than 0.
 fn due_fit(clock: Frac, bound: Frac) -> bool
     ensures { result ≡ due_fits clock (Some bound) }
@@ -82,7 +71,7 @@ fn arrival(fits: bool, left: Frac) -> Result<Option<Move>, Unfit>
 fn waiting(left: Frac, clock: Frac) -> Result<Option<Move>, Unfit>
     ensures { result ≡ arriving (due_fits clock (Some (greater zero_ℚ left))) left }
 {
-    arrival(due_fit(clock, greater_of(Frac::zero(), left)), left)
+    arrival(due_fit(clock, Frac::zero().greater(left)), left)
 }
 
 /// Whether the values of all that a communication sends fit.

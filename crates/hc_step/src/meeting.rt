@@ -84,7 +84,7 @@ impl Local {
     ghost use Rattle.std.specs.Prelude.{None, ◌≢◌, true};
     ghost use Rattle.hc_rational.specs.Words.{Rational};
     ghost use Rattle.hc_term.specs.declared.model.ProcessState.{ProcessState};
-    ghost use Rattle.hc_term.specs.Posts.{gift, wishes};
+    ghost use Rattle.hc_term.specs.Posts.{sent_on, receives_on};
     ghost use Rattle.hc_term.specs.Communication.{sent, received};
     ghost use Rattle.hc_code.specs.Stands.{Table, AllAgree};
     ghost use Rattle.hc_step.specs.Represents.{Represents, Keeps};
@@ -95,7 +95,7 @@ impl Local {
         requires within { self.old.place < length code.now.instrs }
         ensures keeps { Keeps (length code.now.instrs) self.old self.new }
         ensures sent { (t : Table) (clock : Rational) (q : ProcessState) → AllAgree t code.now.instrs t → Represents t clock self.old q →
-            gift channel self.old.post.offers ≢ None → Represents t clock self.new (sent channel q) }
+            sent_on channel self.old.post.offers ≢ None → Represents t clock self.new (sent channel q) }
     {
         let ways = ways_of(code.at(self.place));
         if let Some(next) = sent_way(ways, channel) {
@@ -109,7 +109,7 @@ impl Local {
         requires within { self.old.place < length code.now.instrs }
         ensures keeps { Keeps (length code.now.instrs) self.old self.new }
         ensures received { (t : Table) (clock : Rational) (q : ProcessState) → AllAgree t code.now.instrs t → Represents t clock self.old q →
-            wishes channel self.old.post.offers ≡ true → Represents t clock self.new (received channel value q) }
+            receives_on channel self.old.post.offers ≡ true → Represents t clock self.new (received channel value q) }
     {
         let ways = ways_of(code.at(self.place));
         if let Some(taken) = received_way(ways, channel) {

@@ -22,13 +22,7 @@ fn exact(op: Op, left: Frac, right: Frac) -> Frac
     requires fits { IsTrue (fits (applied op left right)) }
     ensures { result ≡ applied op left right }
 {
-    let exact = match op {
-        Op::Add => left.add(right),
-        Op::Sub => left.sub(right),
-        Op::Mul => left.mul(right),
-        Op::Div => left.div(right),
-    };
-    match exact {
+    match op.applied(left, right) {
         Some(value) => value,
         None => unreachable!(),
     }
@@ -97,23 +91,12 @@ fn due_of(clock: Frac, bound: Frac) -> Option<Frac>
     }
 }
 
-/// Shows this phase, and nothing else.
-pub(crate) fn show(post: &mut Post, phase: Phase)
-    ensures { post.new ≡ record { phase = phase; bound = None; due = None; moving = []; offers = [] } }
-{
-    post.phase = phase;
-    post.bound = None;
-    post.due = None;
-    post.moving.clear();
-    post.offers.clear();
-}
-
 /// Shows a process that has arrived at a wait with this bound.
 pub(crate) fn show_wait(post: &mut Post, clock: Frac, bound: Frac)
     requires { IsTrue (due_fits clock (Some bound)) }
     ensures { post.new ≡ record { phase = Phase.Arrived; bound = Some bound; due = spec.due_of clock (Some bound); moving = []; offers = [] } }
 {
-    show(post, Phase::Arrived);
+    post.show(Phase::Arrived);
     post.bound = Some(bound);
     post.due = due_of(clock, bound);
 }
@@ -131,6 +114,6 @@ pub(crate) fn show_ways(post: &mut Post, ways: &[Way], store: &[Frac])
       offers = map (λ w. spec.offer_of store.now [] w.io) ways.now;
     } }
 {
-    show(post, Phase::Arrived);
+    post.show(Phase::Arrived);
     offer_all(&mut post.offers, ways, store);
 }

@@ -5,8 +5,8 @@ ghost use Rattle.hc_step.specs.Usable.{has_values, is_usable_code};
 ghost use Rattle.hc_step.specs.Taking.{phase_of, post_of, may_arrive};
 
 use crate::local::Local;
-use crate::look::{Move, greater_of};
-use crate::posting::{show, show_wait, show_ways};
+use crate::look::Move;
+use crate::posting::{show_wait, show_ways};
 use hc_code::{Instr, ProcCode};
 use hc_frac::Frac;
 use hc_term::{Mark, Phase, Post};
@@ -28,7 +28,7 @@ fn show_arrived(post: &mut Post, instr: &Instr, store: &[Frac], clock: Frac, lef
     ensures { post.new ≡ post_of store.now clock left instr.now }
 {
     match instr {
-        Instr::Wait { .. } => show_wait(post, clock, greater_of(Frac::zero(), left)),
+        Instr::Wait { .. } => show_wait(post, clock, Frac::zero().greater(left)),
         Instr::Meet { branches } => show_ways(post, branches.as_slice(), store),
         _ => unreachable!(),
     }
@@ -54,7 +54,7 @@ impl Local {
     {
         self.place = next;
         self.mark = Mark::Going;
-        show(&mut self.post, phase_at(code.at(next)));
+        self.post.show(phase_at(code.at(next)));
     }
 
     /// Sets a variable and goes on.

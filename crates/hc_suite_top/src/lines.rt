@@ -5,9 +5,9 @@ use std::test::Fail;
 
 const WAITING: &str = "system P = (wait(2)) endsystem";
 
-const ENDED: &str = "hcsp-trace 1\n0 delay 2\nend terminated 2\n";
+const ENDED: &str = "hcsp-trace 2\n0 delay 2\nend terminated 2\n";
 
-const SHORTER: &str = "hcsp-trace 1\n0 delay 3/2\nend horizon 3/2\n";
+const SHORTER: &str = "hcsp-trace 2\n0 delay 3/2\nend horizon 3/2\n";
 
 /// Words in order, with the status and what stands on output.
 const ORDERED_WORDS: [(&[&str], u8, &str); 22] = [
@@ -24,19 +24,19 @@ const ORDERED_WORDS: [(&[&str], u8, &str); 22] = [
     (
         &["simulate", "--horizon", "0.000000000000000001"],
         0,
-        "hcsp-trace 1\n0 delay 1/1000000000000000000\nend horizon 1/1000000000000000000\n",
+        "hcsp-trace 2\n0 delay 1/1000000000000000000\nend horizon 1/1000000000000000000\n",
     ),
     (&["simulate", "--horizon=9223372036854775807"], 0, ENDED),
     (&["simulate", "--horizon", "2"], 0, ENDED),
     (
         &["simulate", "--limit", "1"],
         12,
-        "hcsp-trace 1\nend limit 0\n",
+        "hcsp-trace 2\nend limit 0\n",
     ),
     (
         &["simulate", "--limit=2"],
         12,
-        "hcsp-trace 1\n0 delay 2\nend limit 2\n",
+        "hcsp-trace 2\n0 delay 2\nend limit 2\n",
     ),
     (&["simulate", "--limit", "1000000"], 0, ENDED),
     (
@@ -65,7 +65,7 @@ const ORDERED_WORDS: [(&[&str], u8, &str); 22] = [
     (
         &["simulate", "--limit", "1", "--horizon=1"],
         12,
-        "hcsp-trace 1\nend limit 0\n",
+        "hcsp-trace 2\nend limit 0\n",
     ),
     (
         &["check"],
@@ -168,7 +168,7 @@ fn other_words_read_nothing(rt: HostRuntime) -> Result<(), Fail> {
 fn a_limit_of_one_step_stops_at_once(rt: HostRuntime) -> Result<(), Fail> {
     let wanted = Wanted {
         status: 12,
-        out: "hcsp-trace 1\nend limit 0\n",
+        out: "hcsp-trace 2\nend limit 0\n",
         err: "",
     };
     let words = ["simulate", "--limit", "1"];

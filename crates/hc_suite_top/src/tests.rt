@@ -26,42 +26,42 @@ fn plain_sources_are_simulated(rt: HostRuntime) -> Result<(), Fail> {
         (
             "system P = (skip) endsystem",
             0,
-            "hcsp-trace 1\nend terminated 0\n",
+            "hcsp-trace 2\nend terminated 0\n",
         ),
         (
             "module M(): begin skip end endmodule system P = (skip) || Q = M() endsystem",
             0,
-            "hcsp-trace 1\nend terminated 0\n",
+            "hcsp-trace 2\nend terminated 0\n",
         ),
         (
             "system P = (wait(200)) endsystem",
             0,
-            "hcsp-trace 1\n0 delay 100\nend horizon 100\n",
+            "hcsp-trace 2\n0 delay 100\nend horizon 100\n",
         ),
         (
             "system P = (wait(1.5); c!2) || Q = (c?x) endsystem",
             0,
-            "hcsp-trace 1\n0 delay 3/2\n3/2 comm c 2\nend terminated 3/2\n",
+            "hcsp-trace 2\n0 delay 3/2\n3/2 comm c P Q 2\nend terminated 3/2\n",
         ),
         (
             "system P = (wait(0.000000000000000001)) || Q = (wait(1000)) endsystem",
             11,
-            "hcsp-trace 1\nend overflow 0 *\n",
+            "hcsp-trace 2\nend overflow 0 *\n",
         ),
         (
             "system P = (c!1) || Q = (d?x) endsystem",
             10,
-            "hcsp-trace 1\nend deadlock 0\n",
+            "hcsp-trace 2\nend deadlock 0\n",
         ),
         (
             "system P = (b!1) || Q = (b?x) || R = (a!2) || S = (a?x) endsystem",
             0,
-            "hcsp-trace 1\n0 comm b 1\n0 comm a 2\nend terminated 0\n",
+            "hcsp-trace 2\n0 comm b P Q 1\n0 comm a R S 2\nend terminated 0\n",
         ),
         (
             "system F = (wait(1); a!7) || M = (a?x; wait(1); b!8) || L = (b?y) endsystem",
             0,
-            "hcsp-trace 1\n0 delay 1\n1 comm a 7\n1 delay 1\n2 comm b 8\nend terminated 2\n",
+            "hcsp-trace 2\n0 delay 1\n1 comm a F M 7\n1 delay 1\n2 comm b M L 8\nend terminated 2\n",
         ),
     ];
     for (text, status, out) in rows {
@@ -210,10 +210,10 @@ fn each_cut_of_a_source_is_refused(rt: HostRuntime) -> Result<(), Fail> {
 fn a_fault_of_output_cuts_the_trace(rt: HostRuntime) -> Result<(), Fail> {
     let rows = [
         "",
-        "hcsp-trace 1\n",
-        "hcsp-trace 1\n0 delay 3/2\n",
-        "hcsp-trace 1\n0 delay 3/2\n3/2 comm c 2\n",
-        "hcsp-trace 1\n0 delay 3/2\n3/2 comm c 2\nend terminated 3/2\n",
+        "hcsp-trace 2\n",
+        "hcsp-trace 2\n0 delay 3/2\n",
+        "hcsp-trace 2\n0 delay 3/2\n3/2 comm c P Q 2\n",
+        "hcsp-trace 2\n0 delay 3/2\n3/2 comm c P Q 2\nend terminated 3/2\n",
     ];
     let mut call = 0;
     for out in rows {

@@ -12,7 +12,7 @@ use Rattle.hc_term.specs.declared.run.Step.TheVariants.{Silent, Comm, Delay}
 use Rattle.hc_term.specs.declared.run.Item.{Item}
 use Rattle.hc_term.specs.declared.post.Post.{Post}
 use Rattle.hc_term.specs.declared.model.Configuration.{Configuration}
-use Rattle.hc_term.specs.Posts.{least_bound, is_timed, length_of_delay, NoBound, AtHorizon, TooLarge, Took, passing_below}
+use Rattle.hc_term.specs.Posts.{least_bound, is_timed, length_of_delay, NoBound, AtHorizon, Overflows, Took, passing_below}
 use Rattle.hc_term.specs.Step.{opening, posts, StepTo, Leads}
 use Rattle.hc_term.specs.Laws.{ClockKeepsHorizon, HorizonIsReached}
 use Rattle.hc_term.proofs.Turns.{passing-quiet}
@@ -30,7 +30,7 @@ rest-keeps clock horizon d h =
     (subst (λ q. d +ℚ clock ≤ℚ q) (-ℚ-+ℚ horizon clock) (+ℚ-≤ℚ d (horizon -ℚ clock) clock h))
 
 module _ (clock horizon : Rational) (ps : List Post) where
-  taken : (d by : Rational) (b : Bool) → (if b then Took d else TooLarge) ≡ Took by → d ≡ by
+  taken : (d by : Rational) (b : Bool) → (if b then Took d else Overflows) ≡ Took by → d ≡ by
   taken d by true e = cc
   taken d by false e = cc
 
@@ -47,7 +47,7 @@ module _ (clock horizon : Rational) (ps : List Post) where
   took-most true d e = below-most (rank clock horizon) d e
   took-most false d e = cc
 
-  for-at : (d : Rational) (b : Bool) → (if b then Took d else TooLarge) ≡ AtHorizon → ⊥
+  for-at : (d : Rational) (b : Bool) → (if b then Took d else Overflows) ≡ AtHorizon → ⊥
   for-at d true e = cc
   for-at d false e = cc
 

@@ -10,7 +10,7 @@ use Rattle.hc_term.specs.declared.model.Configuration.{Configuration}
 use Rattle.hc_term.specs.Silent.{Idle, Did}
 use Rattle.hc_term.specs.Offers.{post}
 use Rattle.hc_term.specs.Communication.{sent, received}
-use Rattle.hc_term.specs.Step.{posts, silent_by, silent_of, changed, replaced, met, GivesAt, WishesAt, Meets, StepTo}
+use Rattle.hc_term.specs.Step.{posts, silent_by, silent_of, changed, replaced, met, SendsAt, ReceivesAt, Meets, StepTo}
 use Rattle.hc_term.specs.Laws.{SilentStepsCommute, SilentAndCommCommute}
 use Rattle.hc_term.proofs.Offering.{sender-idle, receiver-idle}
 use Rattle.hc_term.proofs.Places.{get-set_other, set-set_other, get-changed_other, changed-set_other}
@@ -61,8 +61,8 @@ post-replaced c p k x d =
 module _ (c : Configuration) (m : Meeting) (p : ℕ) (x : ProcessState) (not_s : p ≢ m.sender) (not_r : p ≢ m.receiver) where
   meets_still : Meets m c → Meets m (replaced c p x)
   meets_still h = record {
-    gives = subst (GivesAt m.channel m.value) (sym (post-replaced c p m.sender x not_s)) h.gives;
-    takes = subst (WishesAt m.channel) (sym (post-replaced c p m.receiver x not_r)) h.takes;
+    gives = subst (SendsAt m.channel m.value) (sym (post-replaced c p m.sender x not_s)) h.gives;
+    takes = subst (ReceivesAt m.channel) (sym (post-replaced c p m.receiver x not_r)) h.takes;
   }
 
   met-replaced : met m (replaced c p x) ≡ replaced (met m c) p x

@@ -9,7 +9,7 @@ use Rattle.hc_term.specs.declared.run.StretchEnd.{StretchEnd}
 use Rattle.hc_term.specs.declared.run.StretchEnd.TheVariants as ends
 use Rattle.hc_term.specs.declared.model.Meeting.{Meeting}
 use Rattle.hc_term.specs.declared.model.Configuration.{Configuration}
-use Rattle.hc_term.specs.Posts.{Passing, NoBound, AtHorizon, TooLarge, Took}
+use Rattle.hc_term.specs.Posts.{Passing, NoBound, AtHorizon, Overflows, Took}
 use Rattle.hc_term.specs.Step.{ready, passing, met, delayed}
 use Rattle.hc_term.specs.Canonical.{Halts, turn_passing, turn_quiet, turn_by, turn, Course, preceded, course_by, course}
 use Rattle.hc_term.specs.Event.{Event, event_after, stop_of_passing, stop_after, last_part_by, meetings_by, meetings, second_part}
@@ -63,7 +63,7 @@ module _ (t : Task) where
       preceded i (course (suc n) t c) ≡ course_then (suc (suc n)) t (record { items = i ∷ []; end = c; stop = stop }) stop
   delayed_by n i c (Some NoBound) e = ap (preceded i) (course-passing n c NoBound e)
   delayed_by n i c (Some AtHorizon) e = ap (preceded i) (course-passing n c AtHorizon e)
-  delayed_by n i c (Some TooLarge) e = ap (preceded i) (same_course (suc n) (suc (suc n) - 1) c (omega arith))
+  delayed_by n i c (Some Overflows) e = ap (preceded i) (same_course (suc n) (suc (suc n) - 1) c (omega arith))
   delayed_by n i c (Some (Took d)) e = ap (preceded i) (same_course (suc n) (suc (suc n) - 1) c (omega arith))
   delayed_by n i c None e = ap (preceded i) (same_course (suc n) (suc (suc n) - 1) c (omega arith))
 
@@ -77,7 +77,7 @@ module _ (t : Task) where
       Begins (suc n) t c (last_part_by n t c o)
   last_part-begins n c (Some (Took d)) e =
       course-passing n c (Took d) e ∙ delayed-begins n (record { at = c.clock; step = Delay d }) (delayed d c)
-  last_part-begins n c (Some TooLarge) e = course-passing n c TooLarge e
+  last_part-begins n c (Some Overflows) e = course-passing n c Overflows e
   last_part-begins n c (Some NoBound) e = course-passing n c NoBound e
   last_part-begins n c (Some AtHorizon) e = course-passing n c AtHorizon e
   last_part-begins n c None e = same_course (suc n) (suc n - 0) c (omega arith)

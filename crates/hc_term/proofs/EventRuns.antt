@@ -1,6 +1,7 @@
 -- An event is a piece of a run, and the stop that it sets holds at its end.
 use Rattle.std.proofs.Common.{◌≡◌, refl, sym, ap, subst, ℕ, zero, suc, ◌+◌, ◌-◌, ◌≤◌, ◌<◌, min, List, [], ◌∷◌, length, Option, Some, None, inl, inr, arith}
 use Rattle.hc_rational.specs.Words.{Rational}
+use Rattle.hc_limits.specs.Limits.{most_silent_steps}
 use Rattle.hc_term.specs.declared.task.Task.{Task}
 use Rattle.hc_term.specs.declared.run.Step.TheVariants.{Comm}
 use Rattle.hc_term.specs.declared.run.StretchEnd.{StretchEnd}
@@ -9,7 +10,7 @@ use Rattle.hc_term.specs.declared.model.ProcessState.{ProcessState}
 use Rattle.hc_term.specs.declared.model.Meeting.{Meeting}
 use Rattle.hc_term.specs.declared.model.Configuration.{Configuration}
 use Rattle.hc_term.specs.Silent.{Unfit}
-use Rattle.hc_term.specs.Posts.{Passing, NoBound, AtHorizon, TooLarge, Took}
+use Rattle.hc_term.specs.Posts.{Passing, NoBound, AtHorizon, Overflows, Took}
 use Rattle.hc_term.specs.Step.{ready, passing, silent_of, replaced, met, delayed}
 use Rattle.hc_term.specs.Event.{Progress, progress, Event, stop_of_passing, stop_after, last_part_by, meetings_by, meetings, second_part, silent_items, event_by, event_of, EndsWell}
 use Rattle.hc_term.specs.Laws.{EventIsRun}
@@ -28,7 +29,7 @@ stop_of_passing-ends : (t : Task) (n k : ℕ) (c : Configuration) (o : Option Pa
     EndsWell t n k c (stop_of_passing c o)
 stop_of_passing-ends t n k c (Some NoBound) e below = inr (below, ended_by-stops t c e)
 stop_of_passing-ends t n k c (Some AtHorizon) e below = inr (below, e)
-stop_of_passing-ends t n k c (Some TooLarge) e below = below
+stop_of_passing-ends t n k c (Some Overflows) e below = below
 stop_of_passing-ends t n k c (Some (Took d)) e below = below
 stop_of_passing-ends t n k c None e below = below
 
@@ -43,7 +44,7 @@ last_part-runs t n c (Some (Took d)) e = record {
   within = omega arith;
   ends = stop_after-ends t n (delayed d c);
 }
-last_part-runs t n c (Some TooLarge) e = no_steps t (suc n) c _ (inr (omega arith, e))
+last_part-runs t n c (Some Overflows) e = no_steps t (suc n) c _ (inr (omega arith, e))
 last_part-runs t n c (Some NoBound) e =
     no_steps t (suc n) c _ (stop_of_passing-ends t (suc n) 0 c (Some NoBound) e (omega arith))
 last_part-runs t n c (Some AtHorizon) e =
@@ -96,7 +97,7 @@ event_by-runs t room n p c g least h =
 
 pub event_is_run : EventIsRun
 event_is_run room t p c q at =
-    let n = min 4096 room in
+    let n = min most_silent_steps room in
     let g = progress n t.seed p c.clock q in
     let r = event_by-runs t room n p c g (omega arith) (progress-stretches t p n c q at) in
     let whole = subst (λ (o : Option ProcessState). Runs t room c (event_of room t p c o)) (sym at) r in

@@ -17,7 +17,7 @@ use Rattle.hc_term.specs.Motion.{Rates, rates_in}
 use Rattle.hc_term.specs.Process.{Layer, bound, is_due}
 use Rattle.hc_term.specs.Offers.{offer_of, offers_of, offers_here, post_at, post}
 use Rattle.hc_term.specs.Communication.{if_sends, sent_branch, sent_here, sent_at, sent, Taken, if_receives, received_branch, received_here, received_at, received, moved_at, moved}
-use Rattle.hc_term.specs.Posts.{gift_of, is_wish, gift, first_of}
+use Rattle.hc_term.specs.Posts.{offer_sent_on, offer_receives_on, sent_on, first_of}
 use Rattle.hc_term.specs.Rules.{is_on, uses}
 use Rattle.hc_term.proofs.Used.{any_use, any_branch_uses}
 use Rattle.hc_term.proofs.Bodies.{uses_here, uses_is, UsesNoMore, no_more-same, no_more-rest, Inside, no_more-front}
@@ -120,21 +120,21 @@ moved-no_more d p = moved_at-no_more d p p.mark p.todo
 
 -- whether an offer sends, or receives, on channel c
 abbrev pub is_offer : Bool → ℕ → Offer → Bool
-is_offer true c o = is_some (gift_of c o)
-is_offer false c o = is_wish c o
+is_offer true c o = is_some (offer_sent_on c o)
+is_offer false c o = offer_receives_on c o
 
 abbrev pub offers_on : Bool → ℕ → List Offer → Bool
 offers_on sending c os = list_any (is_offer sending c) os
 
-gift_next : (c : ℕ) (v : Rational) (os : List Offer) (g : Option Rational) →
-    (gift c os ≡ Some v → offers_on true c os ≡ true) → first_of g (gift c os) ≡ Some v →
+sent_on-next : (c : ℕ) (v : Rational) (os : List Offer) (g : Option Rational) →
+    (sent_on c os ≡ Some v → offers_on true c os ≡ true) → first_of g (sent_on c os) ≡ Some v →
     (is_some g || offers_on true c os) ≡ true
-gift_next c v os (Some w) ih e = refl
-gift_next c v os None ih e = ih e
+sent_on-next c v os (Some w) ih e = refl
+sent_on-next c v os None ih e = ih e
 
-pub gift-offered : (c : ℕ) (v : Rational) (os : List Offer) → gift c os ≡ Some v → offers_on true c os ≡ true
-gift-offered c v [] e = cc
-gift-offered c v (o ∷ os) e = gift_next c v os (gift_of c o) (gift-offered c v os) e
+pub sent_on-offered : (c : ℕ) (v : Rational) (os : List Offer) → sent_on c os ≡ Some v → offers_on true c os ≡ true
+sent_on-offered c v [] e = cc
+sent_on-offered c v (o ∷ os) e = sent_on-next c v os (offer_sent_on c o) (sent_on-offered c v os) e
 
 some_if : (b : Bool) (v : Rational) → is_some (if b then Some v else None) ≡ b
 some_if true v = refl

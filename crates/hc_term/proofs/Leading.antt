@@ -1,6 +1,7 @@
 -- Where no channel is ready, the canonical steps begin with the event of the least process that wants a step.
 use Rattle.std.proofs.Common.{◌≡◌, refl, sym, ap, ap₂, ◌∙◌, subst, ℕ, zero, suc, ◌+◌, ◌-◌, ◌≤◌, min, [], ◌∷◌, length, slice_get, Option, Some, None, arith}
 use Rattle.hc_rational.specs.Words.{Rational}
+use Rattle.hc_limits.specs.Limits.{most_silent_steps}
 use Rattle.hc_term.specs.declared.task.Task.{Task}
 use Rattle.hc_term.specs.declared.run.Step.TheVariants.{Silent}
 use Rattle.hc_term.specs.declared.run.Item.{Item}
@@ -157,7 +158,7 @@ begins-with room t c e h = record {
 pub canonical_by_events : CanonicalByEvents
 canonical_by_events room t p c quiet least =
     let w = least-wants c.processes p least in
-    let n = min 4096 room in
+    let n = min most_silent_steps room in
     let g = progress n t.seed p c.clock w.process in
     let h = progress-stretches t p n c w.process w.there in
     let b = progress-takes t p n c w.process w.there (λ i. record { quiet = quiet; least = least }) in

@@ -1,3 +1,4 @@
+pub mod Fronts
 pub mod Sizes
 pub mod Ruled
 pub mod Used

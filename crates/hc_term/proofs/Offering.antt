@@ -14,8 +14,8 @@ use Rattle.hc_term.specs.Value.{Store}
 use Rattle.hc_term.specs.Process.{Layer, bound_here, is_due}
 use Rattle.hc_term.specs.Silent.{Idle, goes_on, silent}
 use Rattle.hc_term.specs.Offers.{offers_here, post}
-use Rattle.hc_term.specs.Posts.{gift, wishes}
-use Rattle.hc_term.specs.Step.{silent_by, silent_of, GivesAt, WishesAt, Meets}
+use Rattle.hc_term.specs.Posts.{sent_on, receives_on}
+use Rattle.hc_term.specs.Step.{silent_by, silent_of, SendsAt, ReceivesAt, Meets}
 
 -- some communication is offered
 abbrev pub Offers : List Offer → Type 0
@@ -63,30 +63,30 @@ active-offers seed p clock c h = by_offers (post clock c).offers refl where
 
 -- ---- by the place of the process
 
-gift-offers : (ch : ℕ) (v : Rational) (os : List Offer) → gift ch os ≡ Some v → Offers os
-gift-offers ch v [] e f = cc
-gift-offers ch v (o ∷ os) e f = cc
+sent_on-offers : (ch : ℕ) (v : Rational) (os : List Offer) → sent_on ch os ≡ Some v → Offers os
+sent_on-offers ch v [] e f = cc
+sent_on-offers ch v (o ∷ os) e f = cc
 
-wishes-offers : (ch : ℕ) (os : List Offer) → wishes ch os ≡ true → Offers os
-wishes-offers ch [] e f = cc
-wishes-offers ch (o ∷ os) e f = cc
+receives_on-offers : (ch : ℕ) (os : List Offer) → receives_on ch os ≡ true → Offers os
+receives_on-offers ch [] e f = cc
+receives_on-offers ch (o ∷ os) e f = cc
 
 module _ (t : Task) (clock : Rational) (p : ℕ) where
   giving-idle : (c : ℕ) (v : Rational) (qs : List ProcessState) (k : ℕ) →
-      GivesAt c v (slice_get (map (post clock) qs) k) → silent_by t clock p (slice_get qs k) ≡ Idle
+      SendsAt c v (slice_get (map (post clock) qs) k) → silent_by t clock p (slice_get qs k) ≡ Idle
   giving-idle c v [] k h = absurd h
-  giving-idle c v (q ∷ qs) zero h = offering-idle t.seed p clock q (gift-offers c v (post clock q).offers h)
+  giving-idle c v (q ∷ qs) zero h = offering-idle t.seed p clock q (sent_on-offers c v (post clock q).offers h)
   giving-idle c v (q ∷ qs) (suc k) h = giving-idle c v qs k h
 
-  wishing-idle : (c : ℕ) (qs : List ProcessState) (k : ℕ) → WishesAt c (slice_get (map (post clock) qs) k) →
+  receiving-idle : (c : ℕ) (qs : List ProcessState) (k : ℕ) → ReceivesAt c (slice_get (map (post clock) qs) k) →
       silent_by t clock p (slice_get qs k) ≡ Idle
-  wishing-idle c [] k h = absurd h
-  wishing-idle c (q ∷ qs) zero h = offering-idle t.seed p clock q (wishes-offers c (post clock q).offers h)
-  wishing-idle c (q ∷ qs) (suc k) h = wishing-idle c qs k h
+  receiving-idle c [] k h = absurd h
+  receiving-idle c (q ∷ qs) zero h = offering-idle t.seed p clock q (receives_on-offers c (post clock q).offers h)
+  receiving-idle c (q ∷ qs) (suc k) h = receiving-idle c qs k h
 
 -- both ends of a meeting have no silent step
 pub sender-idle : (t : Task) (c : Configuration) (m : Meeting) → Meets m c → silent_of t c m.sender ≡ Idle
 sender-idle t c m h = giving-idle t c.clock m.sender m.channel m.value c.processes m.sender h.gives
 
 pub receiver-idle : (t : Task) (c : Configuration) (m : Meeting) → Meets m c → silent_of t c m.receiver ≡ Idle
-receiver-idle t c m h = wishing-idle t c.clock m.receiver m.channel c.processes m.receiver h.takes
+receiver-idle t c m h = receiving-idle t c.clock m.receiver m.channel c.processes m.receiver h.takes

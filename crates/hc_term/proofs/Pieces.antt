@@ -18,7 +18,7 @@ module _ (t : Task) where
   pub no_steps : (n : ℕ) (c : Configuration) (stop : Option Stop) → EndsWell t n 0 c stop → Piece t n c [] c stop
   no_steps n c stop h = record { leads = refl; within = omega arith; ends = h }
 
-  leads_on : (c mid end : Configuration) (is js : List Item) → Leads t c is mid → Leads t mid js end →
+  pub leads_on : (c mid end : Configuration) (is js : List Item) → Leads t c is mid → Leads t mid js end →
       Leads t c (is ++ js) end
   leads_on c mid end [] js h k = subst (λ (x : Configuration). Leads t x js end) h k
   leads_on c mid end (i ∷ is) js h k = (h.0, (h.1.0, h.1.1, leads_on h.1.0 mid end is js h.1.2 k))

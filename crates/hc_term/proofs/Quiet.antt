@@ -18,7 +18,7 @@ use Rattle.hc_term.specs.Motion.{Rates, rates_in, after}
 use Rattle.hc_term.specs.Process.{Layer, bound_here, is_due, wants}
 use Rattle.hc_term.specs.Offers.{offer_of, offers_of, offers_here, post}
 use Rattle.hc_term.specs.Communication.{moved_store, left_after, moved}
-use Rattle.hc_term.specs.Posts.{Took, first_of, gift_of, is_wish, gift, wishes, numbered, sender, receiver, meeting_by, meeting_on, meeting_from}
+use Rattle.hc_term.specs.Posts.{Took, first_of, offer_sent_on, offer_receives_on, sent_on, receives_on, numbered, sender, receiver, meeting_by, meeting_on, meeting_from}
 use Rattle.hc_term.specs.Step.{posts, ready, rests, replaced, delayed}
 use Rattle.hc_term.specs.Laws.{DelaysKeepQuiet}
 use Rattle.hc_term.proofs.Turns.{passing-quiet}
@@ -27,14 +27,14 @@ use Rattle.hc_term.proofs.Turns.{passing-quiet}
 
 -- the offers ns are on no other channels than the offers os
 pub record NoMore (os ns : List Offer) : Type 0 where
-  pub no_gift : (c : ℕ) → gift c os ≡ None → gift c ns ≡ None
-  pub no_wish : (c : ℕ) → wishes c os ≡ false → wishes c ns ≡ false
+  pub sends_nothing : (c : ℕ) → sent_on c os ≡ None → sent_on c ns ≡ None
+  pub receives_nothing : (c : ℕ) → receives_on c os ≡ false → receives_on c ns ≡ false
 
 pub no_more_same : (os : List Offer) → NoMore os os
-no_more_same os = record { no_gift = λ c e. e; no_wish = λ c e. e }
+no_more_same os = record { sends_nothing = λ c e. e; receives_nothing = λ c e. e }
 
 pub no_more_none : (os : List Offer) → NoMore os []
-no_more_none os = record { no_gift = λ c e. refl; no_wish = λ c e. refl }
+no_more_none os = record { sends_nothing = λ c e. refl; receives_nothing = λ c e. refl }
 
 first_of-none : {A : Type 0} (o p : Option A) → first_of o p ≡ None → (o ≡ None) × (p ≡ None)
 first_of-none (Some a) p e = cc
@@ -43,32 +43,32 @@ first_of-none None p e = (refl, e)
 pub none_first_of : {A : Type 0} (o p : Option A) → o ≡ None → p ≡ None → first_of o p ≡ None
 none_first_of o p e f = ap (λ x. first_of x p) e ∙ f
 
--- whether there is a gift doesn't turn on its value
-no_gift_by : (b : Bool) (v w : Rational) → (if b then Some v else None) ≡ None → (if b then Some w else None) ≡ None
-no_gift_by true v w e = cc
-no_gift_by false v w e = refl
+-- whether there is a sent_on doesn't turn on its value
+sends_nothing_by : (b : Bool) (v w : Rational) → (if b then Some v else None) ≡ None → (if b then Some w else None) ≡ None
+sends_nothing_by true v w e = cc
+sends_nothing_by false v w e = refl
 
 module _ (s₀ s₁ : Store) (r₀ r₁ : Rates) where
-  gift_of-moves : (c : ℕ) (io : Io) → gift_of c (offer_of s₀ r₀ io) ≡ None → gift_of c (offer_of s₁ r₁ io) ≡ None
-  gift_of-moves c (Send channel value) e = no_gift_by (channel == c) _ _ e
-  gift_of-moves c (Receive channel variable) e = refl
+  offer_sent_on-moves : (c : ℕ) (io : Io) → offer_sent_on c (offer_of s₀ r₀ io) ≡ None → offer_sent_on c (offer_of s₁ r₁ io) ≡ None
+  offer_sent_on-moves c (Send channel value) e = sends_nothing_by (channel == c) _ _ e
+  offer_sent_on-moves c (Receive channel variable) e = refl
 
-  is_wish-moves : (c : ℕ) (io : Io) → is_wish c (offer_of s₀ r₀ io) ≡ is_wish c (offer_of s₁ r₁ io)
-  is_wish-moves c (Send channel value) = refl
-  is_wish-moves c (Receive channel variable) = refl
+  offer_receives_on-moves : (c : ℕ) (io : Io) → offer_receives_on c (offer_of s₀ r₀ io) ≡ offer_receives_on c (offer_of s₁ r₁ io)
+  offer_receives_on-moves c (Send channel value) = refl
+  offer_receives_on-moves c (Receive channel variable) = refl
 
-  gift-moves : (c : ℕ) (bs : List Branch) → gift c (offers_of s₀ r₀ bs) ≡ None → gift c (offers_of s₁ r₁ bs) ≡ None
-  gift-moves c [] e = refl
-  gift-moves c (b ∷ bs) e =
-      let parts = first_of-none (gift_of c (offer_of s₀ r₀ (out-Branch b).io)) (gift c (offers_of s₀ r₀ bs)) e in
-      none_first_of _ _ (gift_of-moves c (out-Branch b).io parts.0) (gift-moves c bs parts.1)
+  sent_on-moves : (c : ℕ) (bs : List Branch) → sent_on c (offers_of s₀ r₀ bs) ≡ None → sent_on c (offers_of s₁ r₁ bs) ≡ None
+  sent_on-moves c [] e = refl
+  sent_on-moves c (b ∷ bs) e =
+      let parts = first_of-none (offer_sent_on c (offer_of s₀ r₀ (out-Branch b).io)) (sent_on c (offers_of s₀ r₀ bs)) e in
+      none_first_of _ _ (offer_sent_on-moves c (out-Branch b).io parts.0) (sent_on-moves c bs parts.1)
 
-  wishes-moves : (c : ℕ) (bs : List Branch) → wishes c (offers_of s₀ r₀ bs) ≡ wishes c (offers_of s₁ r₁ bs)
-  wishes-moves c [] = refl
-  wishes-moves c (b ∷ bs) = ap₂ (λ x y. x || y) (is_wish-moves c (out-Branch b).io) (wishes-moves c bs)
+  receives_on-moves : (c : ℕ) (bs : List Branch) → receives_on c (offers_of s₀ r₀ bs) ≡ receives_on c (offers_of s₁ r₁ bs)
+  receives_on-moves c [] = refl
+  receives_on-moves c (b ∷ bs) = ap₂ (λ x y. x || y) (offer_receives_on-moves c (out-Branch b).io) (receives_on-moves c bs)
 
   offers_of-moves : (bs : List Branch) → NoMore (offers_of s₀ r₀ bs) (offers_of s₁ r₁ bs)
-  offers_of-moves bs = record { no_gift = λ c e. gift-moves c bs e; no_wish = λ c e. sym (wishes-moves c bs) ∙ e }
+  offers_of-moves bs = record { sends_nothing = λ c e. sent_on-moves c bs e; receives_nothing = λ c e. sym (receives_on-moves c bs) ∙ e }
 
 -- ---- one process
 
@@ -123,21 +123,21 @@ sender-none : (c p : ℕ) (ps qs : List Post) → NoneMore ps qs → sender c p 
 sender-none c p ps [] h e = refl
 sender-none c p [] (q ∷ qs) h e = absurd h
 sender-none c p (o ∷ ps) (q ∷ qs) h e =
-    let parts = first_of-none (numbered p (gift c o.offers)) (sender c (p + 1) ps) e in
-    let g = h.0.no_gift c (numbered-none p (gift c o.offers) parts.0) in
-    none_first_of (numbered p (gift c q.offers)) (sender c (p + 1) qs) (ap (numbered p) g)
+    let parts = first_of-none (numbered p (sent_on c o.offers)) (sender c (p + 1) ps) e in
+    let g = h.0.sends_nothing c (numbered-none p (sent_on c o.offers) parts.0) in
+    none_first_of (numbered p (sent_on c q.offers)) (sender c (p + 1) qs) (ap (numbered p) g)
     (sender-none c (p + 1) ps qs h.1 parts.1)
 
-wished-none : (b : Bool) (p : ℕ) (o : Option ℕ) → (if b then Some p else o) ≡ None → (b ≡ false) × (o ≡ None)
-wished-none true p o e = cc
-wished-none false p o e = (refl, e)
+receiving-none : (b : Bool) (p : ℕ) (o : Option ℕ) → (if b then Some p else o) ≡ None → (b ≡ false) × (o ≡ None)
+receiving-none true p o e = cc
+receiving-none false p o e = (refl, e)
 
 receiver-none : (c p : ℕ) (ps qs : List Post) → NoneMore ps qs → receiver c p ps ≡ None → receiver c p qs ≡ None
 receiver-none c p ps [] h e = refl
 receiver-none c p [] (q ∷ qs) h e = absurd h
 receiver-none c p (o ∷ ps) (q ∷ qs) h e =
-    let parts = wished-none (wishes c o.offers) p (receiver c (p + 1) ps) e in
-    ap (λ (b : Bool). if b then Some p else receiver c (p + 1) qs) (h.0.no_wish c parts.0)
+    let parts = receiving-none (receives_on c o.offers) p (receiver c (p + 1) ps) e in
+    ap (λ (b : Bool). if b then Some p else receiver c (p + 1) qs) (h.0.receives_nothing c parts.0)
     ∙ receiver-none c (p + 1) ps qs h.1 parts.1
 
 meeting_by-none : (c : ℕ) (s : Option (ℕ × Rational)) (r : Option ℕ) → meeting_by c s r ≡ None →

@@ -1,5 +1,5 @@
 -- In what a run reaches each process keeps to the channels of its body, so a channel has one sender and one receiver.
-use Rattle.std.proofs.Common.{◌≡◌, refl, sym, ap, ◌∙◌, subst, subst₂, ℕ, zero, suc, ◌+◌, ◌≤◌, ◌<◌, Bool, true, false, cond, ◌&&◌, List, [], ◌∷◌, length, map, slice_get, slice_set, Option, Some, None, count_by, arith}
+use Rattle.std.proofs.Common.{◌≡◌, refl, sym, ap, ◌∙◌, subst, subst₂, ap₂, if◌then◌else◌, ℕ, zero, suc, ◌+◌, ◌≤◌, ◌<◌, Bool, true, false, cond, ◌&&◌, List, [], ◌∷◌, length, map, slice_get, slice_set, Option, Some, None, count_by, arith}
 use Rattle.std.specs.List.{list_any}
 use Rattle.std.proofs.lemmas.Bool.{true≢false, and_parts, and_from, or_left, or_right, not-true, leb-true}
 use Rattle.std.proofs.lemmas.List.Sums.{sum_by-cons}
@@ -16,12 +16,13 @@ use Rattle.hc_term.specs.declared.model.Configuration.{Configuration}
 use Rattle.hc_term.specs.Silent.{Did, silent}
 use Rattle.hc_term.specs.Offers.{post}
 use Rattle.hc_term.specs.Communication.{sent, received, moved}
-use Rattle.hc_term.specs.Step.{opening, opening_of, posts, silent_by, silent_of, changed, GivesAt, WishesAt, Meets, StepTo, Leads}
-use Rattle.hc_term.specs.Laws.{MeetingsJoinTwo, MeetingsAreUnique}
+use Rattle.hc_term.specs.Step.{opening, opening_of, posts, silent_by, silent_of, changed, SendsAt, ReceivesAt, Meets, StepTo, Leads}
+use Rattle.hc_term.specs.Laws.{MeetingsJoinTwo, MeetingsAreUnique, MeetingsJoinEnds}
+use Rattle.hc_term.specs.Ends.{user_from}
 use Rattle.hc_term.specs.Rules.{is_user, is_joined, all_below}
 use Rattle.hc_term.proofs.Used.{all_below-false}
 use Rattle.hc_term.proofs.Bodies.{UsesNoMore, no_more-same, no_more-trans, Keeps, silent-keeps}
-use Rattle.hc_term.proofs.Handed.{sent-no_more, received-no_more, moved-no_more, gift-offered, offered-used}
+use Rattle.hc_term.proofs.Handed.{sent-no_more, received-no_more, moved-no_more, sent_on-offered, offered-used}
 
 -- ---- what is kept in a run
 
@@ -121,19 +122,19 @@ module _ {A : Type 0} (p : A → Bool) where
 
 module _ (clock : Rational) (c : ℕ) where
   giver-uses : (v : Rational) (bodies : List Process) (qs : List ProcessState) (k : ℕ) → KeepsBodies bodies qs →
-      GivesAt c v (slice_get (map (post clock) qs) k) → PassesAt (is_user true c) (slice_get bodies k)
+      SendsAt c v (slice_get (map (post clock) qs) k) → PassesAt (is_user true c) (slice_get bodies k)
   giver-uses v bodies [] k h g = absurd g
   giver-uses v [] (q ∷ qs) k h g = absurd h
   giver-uses v (b ∷ bodies) (q ∷ qs) zero h g =
-      h.0.kept true c (offered-used true c clock q (gift-offered c v (post clock q).offers g))
+      h.0.kept true c (offered-used true c clock q (sent_on-offered c v (post clock q).offers g))
   giver-uses v (b ∷ bodies) (q ∷ qs) (suc k) h g = giver-uses v bodies qs k h.1 g
 
-  wisher-uses : (bodies : List Process) (qs : List ProcessState) (k : ℕ) → KeepsBodies bodies qs →
-      WishesAt c (slice_get (map (post clock) qs) k) → PassesAt (is_user false c) (slice_get bodies k)
-  wisher-uses bodies [] k h w = absurd w
-  wisher-uses [] (q ∷ qs) k h w = absurd h
-  wisher-uses (b ∷ bodies) (q ∷ qs) zero h w = h.0.kept false c (offered-used false c clock q w)
-  wisher-uses (b ∷ bodies) (q ∷ qs) (suc k) h w = wisher-uses bodies qs k h.1 w
+  receiver-uses : (bodies : List Process) (qs : List ProcessState) (k : ℕ) → KeepsBodies bodies qs →
+      ReceivesAt c (slice_get (map (post clock) qs) k) → PassesAt (is_user false c) (slice_get bodies k)
+  receiver-uses bodies [] k h w = absurd w
+  receiver-uses [] (q ∷ qs) k h w = absurd h
+  receiver-uses (b ∷ bodies) (q ∷ qs) zero h w = h.0.kept false c (offered-used false c clock q w)
+  receiver-uses (b ∷ bodies) (q ∷ qs) (suc k) h w = receiver-uses bodies qs k h.1 w
 
 all_below-at : (n k : ℕ) (f : ℕ → Bool) → k < n → all_below n f ≡ true → f k ≡ true
 all_below-at n k f below e = by_value (f k) refl where
@@ -148,18 +149,18 @@ joined t c below =
     (and_parts _ _ (and_parts _ _ t.system.kept).1).1
 
 -- the processes that a meeting joins, in what a run reaches
-record Ends (t : Task) (m : Meeting) : Type 0 where
+record EndsAre (t : Task) (m : Meeting) : Type 0 where
   sends : PassesAt (is_user true m.channel) (slice_get t.system.processes m.sender)
   receives : PassesAt (is_user false m.channel) (slice_get t.system.processes m.receiver)
 
 meeting-ends : (t : Task) (items : List Item) (c : Configuration) (m : Meeting) → Leads t (opening t) items c →
-    Meets m c → Ends t m
+    Meets m c → EndsAre t m
 meeting-ends t items c m run h =
     let bodies = t.system.processes in
     let kept = run-keeps t bodies items (opening t) c run (opening-keeps bodies) in
     record {
       sends = giver-uses c.clock m.channel m.value bodies c.processes m.sender kept h.gives;
-      receives = wisher-uses c.clock m.channel bodies c.processes m.receiver kept h.takes;
+      receives = receiver-uses c.clock m.channel bodies c.processes m.receiver kept h.takes;
     }
 
 pub meetings_join_two : MeetingsJoinTwo
@@ -172,9 +173,9 @@ meetings_join_two t items c m run below h same =
     let both = pass_both p q bodies m.sender ends.sends receives in
     absurd (true≢false (sym both ∙ not-true _ (and_parts _ _ (joined t m.channel below)).1))
 
-one_gift : (c : ℕ) (v w : Rational) (o : Option Post) → GivesAt c v o → GivesAt c w o → v ≡ w
-one_gift c v w None g h = absurd g
-one_gift c v w (Some p) g h = cc
+one_value : (c : ℕ) (v w : Rational) (o : Option Post) → SendsAt c v o → SendsAt c w o → v ≡ w
+one_value c v w None g h = absurd g
+one_value c v w (Some p) g h = cc
 
 same_parts : (c d s e r f : ℕ) (v w : Rational) → c ≡ d → s ≡ e → r ≡ f → v ≡ w →
     ◌≡◌ {A = Meeting} (record { channel = c; sender = s; receiver = r; value = v })
@@ -194,7 +195,47 @@ meetings_are_unique t items c m n run below same h k =
     let receiver : m.receiver ≡ n.receiver =
     pass_once (is_user false m.channel) bodies m.receiver n.receiver (leb-true _ 1 two.1) here.receives
     (subst (λ (i : ℕ). PassesAt (is_user false i) (slice_get bodies n.receiver)) back there.receives) in
-    let gift : GivesAt m.channel n.value (slice_get (posts c) m.sender) =
-    subst₂ (λ (i j : ℕ). GivesAt i n.value (slice_get (posts c) j)) back (sym sender) k.gives in
+    let sent_on : SendsAt m.channel n.value (slice_get (posts c) m.sender) =
+    subst₂ (λ (i j : ℕ). SendsAt i n.value (slice_get (posts c) j)) back (sym sender) k.gives in
     same_parts m.channel n.channel m.sender n.sender m.receiver n.receiver m.value n.value same sender receiver
-    (one_gift m.channel m.value n.value (slice_get (posts c) m.sender) h.gives gift)
+    (one_value m.channel m.value n.value (slice_get (posts c) m.sender) h.gives sent_on)
+
+-- ---- the ends of a channel
+
+-- where one process at most uses the channel, the first of a list that uses it is the user
+first_is_user : (sending : Bool) (c : ℕ) (b : Process) (bodies : List Process) (k : ℕ) →
+    count_by (is_user sending c) (b ∷ bodies) ≤ 1 → PassesAt (is_user sending c) (slice_get (b ∷ bodies) k) →
+    is_user sending c b ≡ true → k ≡ 0
+first_is_user sending c b bodies zero few h e = refl
+first_is_user sending c b bodies (suc k) few h e =
+    absurd (omega (arith, few, count-pass (is_user sending c) b bodies e, counted (is_user sending c) bodies k h))
+
+user_by : (sending : Bool) (c n : ℕ) (b : Process) (bodies : List Process) (k : ℕ) (used : Bool) →
+    count_by (is_user sending c) (b ∷ bodies) ≤ 1 → PassesAt (is_user sending c) (slice_get (b ∷ bodies) k) →
+    is_user sending c b ≡ used →
+    ((i : ℕ) → count_by (is_user sending c) bodies ≤ 1 → PassesAt (is_user sending c) (slice_get bodies i) →
+    user_from sending c (n + 1) bodies ≡ Some (n + 1 + i)) →
+    (if used then Some n else user_from sending c (n + 1) bodies) ≡ Some (n + k)
+user_by sending c n b bodies k true few h e later =
+    ap Some (omega (arith, first_is_user sending c b bodies k few h e))
+user_by sending c n b bodies zero false few h e later = absurd (true≢false (sym h ∙ e))
+user_by sending c n b bodies (suc k) false few h e later =
+    later k (omega (arith, few, count-rest (is_user sending c) b bodies)) h ∙ ap Some (omega arith)
+
+-- the first user is the one at place k
+first_user : (sending : Bool) (c n : ℕ) (bodies : List Process) (k : ℕ) → count_by (is_user sending c) bodies ≤ 1 →
+    PassesAt (is_user sending c) (slice_get bodies k) → user_from sending c n bodies ≡ Some (n + k)
+first_user sending c n [] k few h = absurd h
+first_user sending c n (b ∷ bodies) k few h =
+    user_by sending c n b bodies k (is_user sending c b) few h refl (λ i. first_user sending c (n + 1) bodies i)
+
+pub meetings_join_ends : MeetingsJoinEnds
+meetings_join_ends t items c m run below h =
+    let bodies = t.system.processes in
+    let two = and_parts _ _ (and_parts _ _ (joined t m.channel below)).0 in
+    let ends = meeting-ends t items c m run h in
+    let sender : user_from true m.channel 0 bodies ≡ Some m.sender =
+    first_user true m.channel 0 bodies m.sender (leb-true _ 1 two.0) ends.sends ∙ ap Some (omega arith) in
+    let receiver : user_from false m.channel 0 bodies ≡ Some m.receiver =
+    first_user false m.channel 0 bodies m.receiver (leb-true _ 1 two.1) ends.receives ∙ ap Some (omega arith) in
+    ap₂ (λ s r. record { sender = s; receiver = r }) sender receiver

@@ -6,57 +6,57 @@ use Rattle.hc_term.specs.declared.run.Step.TheVariants.{Comm}
 use Rattle.hc_term.specs.declared.post.Post.{Post}
 use Rattle.hc_term.specs.declared.model.Meeting.{Meeting}
 use Rattle.hc_term.specs.declared.model.Configuration.{Configuration}
-use Rattle.hc_term.specs.Posts.{first_of, gift, wishes, numbered, sender, receiver, meeting_by, meeting_on, meeting_from}
-use Rattle.hc_term.specs.Step.{posts, ready, met, GivesAt, WishesAt, StepTo}
+use Rattle.hc_term.specs.Posts.{first_of, sent_on, receives_on, numbered, sender, receiver, meeting_by, meeting_on, meeting_from}
+use Rattle.hc_term.specs.Step.{posts, ready, met, SendsAt, ReceivesAt, StepTo}
 use Rattle.hc_term.proofs.Places.{StandsAt, stands_here, stands_later, stands_at}
 
 -- ---- the ends
 
 -- the process with this number sends this value on channel c
 abbrev Sends : ℕ → ℕ → List Post → ℕ × Rational → Type 0
-Sends c from ps s = StandsAt (GivesAt c s.1) from ps s.0
+Sends c from ps s = StandsAt (SendsAt c s.1) from ps s.0
 
 sends_next : (c from : ℕ) (q : Post) (qs : List Post) (s : ℕ × Rational) (g : Option Rational) →
-    gift c q.offers ≡ g → (sender c (from + 1) qs ≡ Some s → Sends c (from + 1) qs s) →
+    sent_on c q.offers ≡ g → (sender c (from + 1) qs ≡ Some s → Sends c (from + 1) qs s) →
     first_of (numbered from g) (sender c (from + 1) qs) ≡ Some s → Sends c from (q ∷ qs) s
 sends_next c from q qs s (Some v) h ih e =
     let same : (from, v) ≡ s = cc in
-    subst (λ x. Sends c from (q ∷ qs) x) same (stands_here (GivesAt c v) from q qs h)
-sends_next c from q qs s None h ih e = stands_later (GivesAt c s.1) from s.0 q qs (ih e)
+    subst (λ x. Sends c from (q ∷ qs) x) same (stands_here (SendsAt c v) from q qs h)
+sends_next c from q qs s None h ih e = stands_later (SendsAt c s.1) from s.0 q qs (ih e)
 
 sender-sends : (c from : ℕ) (ps : List Post) (s : ℕ × Rational) → sender c from ps ≡ Some s → Sends c from ps s
 sender-sends c from [] s e = cc
 sender-sends c from (q ∷ qs) s e =
-    sends_next c from q qs s (gift c q.offers) refl (sender-sends c (from + 1) qs s) e
+    sends_next c from q qs s (sent_on c q.offers) refl (sender-sends c (from + 1) qs s) e
 
-receives_next : (c from : ℕ) (q : Post) (qs : List Post) (r : ℕ) (b : Bool) → wishes c q.offers ≡ b →
-    (receiver c (from + 1) qs ≡ Some r → StandsAt (WishesAt c) (from + 1) qs r) →
-    (if b then Some from else receiver c (from + 1) qs) ≡ Some r → StandsAt (WishesAt c) from (q ∷ qs) r
+receives_next : (c from : ℕ) (q : Post) (qs : List Post) (r : ℕ) (b : Bool) → receives_on c q.offers ≡ b →
+    (receiver c (from + 1) qs ≡ Some r → StandsAt (ReceivesAt c) (from + 1) qs r) →
+    (if b then Some from else receiver c (from + 1) qs) ≡ Some r → StandsAt (ReceivesAt c) from (q ∷ qs) r
 receives_next c from q qs r true h ih e =
     let same : from ≡ r = cc in
-    subst (λ k. StandsAt (WishesAt c) from (q ∷ qs) k) same (stands_here (WishesAt c) from q qs h)
-receives_next c from q qs r false h ih e = stands_later (WishesAt c) from r q qs (ih e)
+    subst (λ k. StandsAt (ReceivesAt c) from (q ∷ qs) k) same (stands_here (ReceivesAt c) from q qs h)
+receives_next c from q qs r false h ih e = stands_later (ReceivesAt c) from r q qs (ih e)
 
 receiver-receives : (c from : ℕ) (ps : List Post) (r : ℕ) → receiver c from ps ≡ Some r →
-    StandsAt (WishesAt c) from ps r
+    StandsAt (ReceivesAt c) from ps r
 receiver-receives c from [] r e = cc
 receiver-receives c from (q ∷ qs) r e =
-    receives_next c from q qs r (wishes c q.offers) refl (receiver-receives c (from + 1) qs r) e
+    receives_next c from q qs r (receives_on c q.offers) refl (receiver-receives c (from + 1) qs r) e
 
 -- ---- the meeting
 
 -- both ends of the meeting's channel are offered
 record Joins (ps : List Post) (m : Meeting) : Type 0 where
-  gives : GivesAt m.channel m.value (slice_get ps m.sender)
-  takes : WishesAt m.channel (slice_get ps m.receiver)
+  gives : SendsAt m.channel m.value (slice_get ps m.sender)
+  takes : ReceivesAt m.channel (slice_get ps m.receiver)
 
 meeting_by-joins : (c : ℕ) (ps : List Post) (m : Meeting) (s : Option (ℕ × Rational)) (r : Option ℕ) →
     sender c 0 ps ≡ s → receiver c 0 ps ≡ r → meeting_by c s r ≡ Some m → (m.channel ≡ c) × Joins ps m
 meeting_by-joins c ps m (Some s) (Some r) e f h =
     let made : Meeting = record { channel = c; sender = s.0; receiver = r; value = s.1 } in
     let same : made ≡ m = cc in
-    let gives = stands_at (GivesAt c s.1) ps s.0 (sender-sends c 0 ps s e) in
-    let takes = stands_at (WishesAt c) ps r (receiver-receives c 0 ps r f) in
+    let gives = stands_at (SendsAt c s.1) ps s.0 (sender-sends c 0 ps s e) in
+    let takes = stands_at (ReceivesAt c) ps r (receiver-receives c 0 ps r f) in
     subst (λ (x : Meeting). (x.channel ≡ c) × Joins ps x) same (refl, record { gives = gives; takes = takes })
 meeting_by-joins c ps m (Some s) None e f h = cc
 meeting_by-joins c ps m None r e f h = cc

@@ -12,7 +12,7 @@ use Rattle.hc_term.specs.declared.model.Meeting.{Meeting}
 use Rattle.hc_term.specs.declared.model.Configuration.{Configuration}
 use Rattle.hc_term.specs.Value.{Store}
 use Rattle.hc_term.specs.Offers.{post_at, post}
-use Rattle.hc_term.specs.Posts.{Passing, NoBound, AtHorizon, TooLarge, Took, gift, numbered, sender, meeting_from}
+use Rattle.hc_term.specs.Posts.{Passing, NoBound, AtHorizon, Overflows, Took, sent_on, numbered, sender, meeting_from}
 use Rattle.hc_term.specs.Step.{opening_of, ready, passing}
 use Rattle.hc_term.specs.Event.{Event, last_part_by, meetings_by, meetings, second_part, event_of}
 use Rattle.hc_term.specs.Laws.{EventsEndQuiet, OpeningIsQuiet}
@@ -27,7 +27,7 @@ module _ (t : Task) where
   last_part-settles : (n : ℕ) (c : Configuration) (o : Option Passing) → ready t c ≡ None → passing t c ≡ o →
       Settles (last_part_by n t c o)
   last_part-settles n c (Some (Took d)) h e f = delays_keep_quiet t c d e
-  last_part-settles n c (Some TooLarge) h e f = cc
+  last_part-settles n c (Some Overflows) h e f = cc
   last_part-settles n c (Some NoBound) h e f = cc
   last_part-settles n c (Some AtHorizon) h e f = cc
   last_part-settles n c None h e f = h
@@ -65,7 +65,7 @@ module _ (clock : Rational) where
   opening-sender : (c p : ℕ) (bodies : List Process) → sender c p (map (post clock) (map opening_of bodies)) ≡ None
   opening-sender c p [] = refl
   opening-sender c p (b ∷ bodies) =
-      none_first_of _ _ (ap (λ os. numbered p (gift c os)) (going-offers (opening_of b).store b.body))
+      none_first_of _ _ (ap (λ os. numbered p (sent_on c os)) (going-offers (opening_of b).store b.body))
       (opening-sender c (p + 1) bodies)
 
   opening-meeting : (c n : ℕ) (bodies : List Process) →

@@ -7,7 +7,7 @@ use Rattle.hc_term.specs.declared.run.Stop.TheVariants.{Terminated, Deadlock, Li
 use Rattle.hc_term.specs.declared.model.Meeting.{Meeting}
 use Rattle.hc_term.specs.declared.model.Configuration.{Configuration}
 use Rattle.hc_term.specs.Silent.{Outcome, Idle, Unfit, Did}
-use Rattle.hc_term.specs.Posts.{Passing, NoBound, AtHorizon, TooLarge, Took}
+use Rattle.hc_term.specs.Posts.{Passing, NoBound, AtHorizon, Overflows, Took}
 use Rattle.hc_term.specs.Step.{opening, ready, rests, all_ended, passing, passing_by, passing_quiet, silent_by, silent_of, StepTo}
 use Rattle.hc_term.specs.Stop.{StopsAt}
 use Rattle.hc_term.specs.Canonical.{Turn, Goes, Halts, wanting_from, turn_silent, turn_passing, turn_quiet, turn_by, turn, Course, course_by, course}
@@ -41,7 +41,7 @@ ended_by-stops t c e = ended_by-sound t c (all_ended c.processes) refl e
 turn_passing-sound : (t : Task) (c : Configuration) (what : Passing) → passing t c ≡ Some what →
     Sound t c (turn_passing c what)
 turn_passing-sound t c (Took d) e = (e, refl)
-turn_passing-sound t c TooLarge e = e
+turn_passing-sound t c Overflows e = e
 turn_passing-sound t c AtHorizon e = e
 turn_passing-sound t c NoBound e = ended_by-stops t c e
 

@@ -11,7 +11,7 @@ use Rattle.hc_term.specs.declared.model.Meeting.{Meeting}
 use Rattle.hc_term.specs.declared.model.Configuration.{Configuration}
 use Rattle.hc_term.specs.Process.{wants}
 use Rattle.hc_term.specs.Silent.{Outcome, Idle, Unfit, Did}
-use Rattle.hc_term.specs.Posts.{Passing, NoBound, AtHorizon, TooLarge, Took}
+use Rattle.hc_term.specs.Posts.{Passing, NoBound, AtHorizon, Overflows, Took}
 use Rattle.hc_term.specs.Step.{opening, ready, all_ended, passing_quiet, silent_of, replaced, met, delayed}
 
 -- what a configuration does next: a step, or a stop
@@ -34,7 +34,7 @@ ended_by c = if all_ended c.processes then Terminated else Deadlock
 
 abbrev pub turn_passing : Configuration → Passing → Turn
 turn_passing c (Took d) = Goes (Delay d) (delayed d c)
-turn_passing c TooLarge = Halts (Overflow None)
+turn_passing c Overflows = Halts (Overflow None)
 turn_passing c AtHorizon = Halts Horizon
 turn_passing c NoBound = Halts (ended_by c)
 

@@ -2,7 +2,7 @@
 use Rattle.std.specs.Prelude.{◌≡◌, Bool, true, false, not, ◌&&◌, length, IsTrue, Option, Some, None, MatchOption, if◌then◌else◌}
 use Rattle.std.specs.declared.cmp.Ordering.{Ordering}
 use Rattle.std.specs.declared.cmp.Ordering.TheVariants as side
-use Rattle.hc_rational.specs.Words.{Rational, zero_ℚ, ◌+ℚ◌, ◌-ℚ◌, ◌*ℚ◌, ◌/ℚ◌, neg_ℚ, ◌≤ℚ◌, rank, fits, Ends}
+use Rattle.hc_rational.specs.Words.{Rational, zero_ℚ, ◌+ℚ◌, ◌-ℚ◌, ◌*ℚ◌, ◌/ℚ◌, neg_ℚ, ◌≤ℚ◌, rank, earlier, fits, Ends}
 use Rattle.hc_term.specs.declared.expr.Expr.{Expr}
 use Rattle.hc_term.specs.declared.expr.Cond.{Cond, fold-Cond}
 use Rattle.hc_term.specs.declared.expr.Cond.TheOpen.{Cond-F}
@@ -67,17 +67,6 @@ sides_when just_after s r t a b = let g = gap_of s r a b in side_when just_after
 -- whether the condition is false at the moment t or just after it
 abbrev pub fails : Store → Rates → Cond → Rational → Bool
 fails s r c t = not (judge (sides_when false s r t) c && judge (sides_when true s r t) c)
-
-abbrev pub earlier_by : Ordering → Rational → Rational → Option Rational
-earlier_by side.Greater d e = Some e
-earlier_by side.Less d e = Some d
-earlier_by side.Equal d e = Some d
-
--- the lesser of two moments, of which one or both may be missing
-abbrev pub earlier : Option Rational → Option Rational → Option Rational
-earlier None e = e
-earlier (Some d) None = Some d
-earlier (Some d) (Some e) = earlier_by (rank d e) d e
 
 -- a moment that passes a test
 abbrev pub kept : (Rational → Bool) → Option Rational → Option Rational

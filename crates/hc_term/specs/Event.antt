@@ -1,5 +1,6 @@
 -- One event of the program that runs on threads: what one process does, and what follows from it.
 use Rattle.std.specs.Prelude.{◌≡◌, ◌<◌, ℕ, zero, suc, ◌-◌, min, if◌then◌else◌, List, [], ◌∷◌, ◌++◌, length, slice_get, Option, Some, None, ◌⊎◌}
+use Rattle.hc_limits.specs.Limits.{most_silent_steps}
 use Rattle.hc_rational.specs.Words.{Rational}
 use Rattle.hc_term.specs.declared.task.Task.{Task}
 use Rattle.hc_term.specs.declared.run.Step.TheVariants.{Silent, Comm, Delay}
@@ -13,7 +14,7 @@ use Rattle.hc_term.specs.declared.model.Meeting.{Meeting}
 use Rattle.hc_term.specs.declared.model.Configuration.{Configuration}
 use Rattle.hc_term.specs.Process.{is_done}
 use Rattle.hc_term.specs.Silent.{Outcome, Idle, Unfit, Did, silent}
-use Rattle.hc_term.specs.Posts.{Passing, NoBound, AtHorizon, TooLarge, Took}
+use Rattle.hc_term.specs.Posts.{Passing, NoBound, AtHorizon, Overflows, Took}
 use Rattle.hc_term.specs.Step.{ready, passing, replaced, met, delayed}
 use Rattle.hc_term.specs.Stop.{StopsAt}
 use Rattle.hc_term.specs.Canonical.{ended_by}
@@ -67,7 +68,7 @@ event_after before e = record e { items = before ++ e.items }
 abbrev pub stop_of_passing : Configuration → Option Passing → Option Stop
 stop_of_passing c (Some NoBound) = Some (ended_by c)
 stop_of_passing c (Some AtHorizon) = Some Horizon
-stop_of_passing c (Some TooLarge) = None
+stop_of_passing c (Some Overflows) = None
 stop_of_passing c (Some (Took d)) = None
 stop_of_passing c None = None
 
@@ -82,7 +83,7 @@ last_part_by n t c (Some (Took d)) = record {
   end = delayed d c;
   stop = stop_after n t (delayed d c);
 }
-last_part_by n t c (Some TooLarge) = still c (Some (Overflow None))
+last_part_by n t c (Some Overflows) = still c (Some (Overflow None))
 last_part_by n t c (Some NoBound) = still c (stop_of_passing c (Some NoBound))
 last_part_by n t c (Some AtHorizon) = still c (stop_of_passing c (Some AtHorizon))
 last_part_by n t c None = still c None
@@ -113,7 +114,7 @@ event_by room t p c g =
     event_after (silent_items c.clock p g.logs) (second_part (room - length g.logs) t p (replaced c p g.next) g.end)
 
 abbrev pub event_of : ℕ → Task → ℕ → Configuration → Option ProcessState → Event
-event_of room t p c (Some q) = event_by room t p c (progress (min 4096 room) t.seed p c.clock q)
+event_of room t p c (Some q) = event_by room t p c (progress (min most_silent_steps room) t.seed p c.clock q)
 event_of room t p c None = still c None
 
 -- what process p does next, and what follows, where so many steps are left to the limit

@@ -19,6 +19,7 @@ use Rattle.hc_term.specs.Posts.{Took}
 use Rattle.hc_term.specs.Step.{opening, ready, passing, delayed, Meets, StepTo, IsRun, Leads}
 use Rattle.hc_term.specs.Stop.{StopsAt, IsBehaviour}
 use Rattle.hc_term.specs.Canonical.{canonical, course, wanting_from}
+use Rattle.hc_term.specs.Ends.{ends_of}
 use Rattle.hc_term.specs.Event.{Event, event, EndsWell}
 
 -- ---- any configuration
@@ -84,6 +85,13 @@ abbrev pub MeetingsAreUnique : Type 0
 MeetingsAreUnique =
     (t : Task) (items : List Item) (c : Configuration) (m n : Meeting) → Leads t (opening t) items c →
     m.channel < length t.system.channels → m.channel ≡ n.channel → Meets m c → Meets n c → m ≡ n
+
+-- and its ends are the two processes that meet on it, by which the text of a run names them
+abbrev pub MeetingsJoinEnds : Type 0
+MeetingsJoinEnds =
+    (t : Task) (items : List Item) (c : Configuration) (m : Meeting) → Leads t (opening t) items c →
+    m.channel < length t.system.channels → Meets m c →
+    ends_of t.system m.channel ≡ record { sender = Some m.sender; receiver = Some m.receiver }
 
 -- ---- events and the canonical run
 

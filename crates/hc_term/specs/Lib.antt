@@ -9,11 +9,12 @@ pub mod Silent
 pub mod Offers
 pub mod Communication
 pub mod Posts
+pub mod Moved
 pub mod Step
 pub mod Stop
 pub mod Canonical
 pub mod Event
+pub mod Ends
 pub mod TraceText
 pub mod Laws
 pub mod Given
-pub mod Plain

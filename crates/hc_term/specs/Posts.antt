@@ -3,13 +3,12 @@ use Rattle.std.specs.Prelude.{ℕ, zero, suc, ◌+◌, Bool, true, false, not, �
 use Rattle.std.specs.List.{list_all, list_any}
 use Rattle.std.specs.declared.cmp.Ordering.{Ordering}
 use Rattle.std.specs.declared.cmp.Ordering.TheVariants as side
-use Rattle.hc_rational.specs.Words.{Rational, ◌+ℚ◌, ◌-ℚ◌, ◌*ℚ◌, rank, lesser, fits}
+use Rattle.hc_rational.specs.Words.{Rational, ◌+ℚ◌, ◌-ℚ◌, ◌*ℚ◌, rank, lesser, earlier, fits}
 use Rattle.hc_term.specs.declared.post.Post.{Post}
 use Rattle.hc_term.specs.declared.post.Moving.{Moving}
 use Rattle.hc_term.specs.declared.post.Offer.{Offer}
 use Rattle.hc_term.specs.declared.post.Offer.TheVariants.{Send, Receive}
 use Rattle.hc_term.specs.declared.model.Meeting.{Meeting}
-use Rattle.hc_term.specs.EndMoment.{earlier}
 
 -- ---- meetings
 
@@ -17,22 +16,24 @@ abbrev pub first_of : {A : Type 0} → Option A → Option A → Option A
 first_of (Some a) other = Some a
 first_of None other = other
 
-abbrev pub gift_of : ℕ → Offer → Option Rational
-gift_of c (Send channel at slope) = if channel == c then Some at else None
-gift_of c (Receive channel) = None
+-- what one offer sends on channel c
+abbrev pub offer_sent_on : ℕ → Offer → Option Rational
+offer_sent_on c (Send channel at slope) = if channel == c then Some at else None
+offer_sent_on c (Receive channel) = None
 
-abbrev pub is_wish : ℕ → Offer → Bool
-is_wish c (Send channel at slope) = false
-is_wish c (Receive channel) = channel == c
+-- whether it receives there
+abbrev pub offer_receives_on : ℕ → Offer → Bool
+offer_receives_on c (Send channel at slope) = false
+offer_receives_on c (Receive channel) = channel == c
 
 -- what these offers send on channel c
-abbrev pub gift : ℕ → List Offer → Option Rational
-gift c [] = None
-gift c (o ∷ os) = first_of (gift_of c o) (gift c os)
+abbrev pub sent_on : ℕ → List Offer → Option Rational
+sent_on c [] = None
+sent_on c (o ∷ os) = first_of (offer_sent_on c o) (sent_on c os)
 
 -- whether these offers receive on channel c
-abbrev pub wishes : ℕ → List Offer → Bool
-wishes c os = list_any (is_wish c) os
+abbrev pub receives_on : ℕ → List Offer → Bool
+receives_on c os = list_any (offer_receives_on c) os
 
 abbrev pub numbered : ℕ → Option Rational → Option (ℕ × Rational)
 numbered p None = None
@@ -41,12 +42,12 @@ numbered p (Some v) = Some (p, v)
 -- the process that offers to send on channel c, of which there is at most one, and its value
 abbrev pub sender : ℕ → ℕ → List Post → Option (ℕ × Rational)
 sender c p [] = None
-sender c p (q ∷ qs) = first_of (numbered p (gift c q.offers)) (sender c (p + 1) qs)
+sender c p (q ∷ qs) = first_of (numbered p (sent_on c q.offers)) (sender c (p + 1) qs)
 
 -- the process that offers to receive on channel c, of which there is at most one
 abbrev pub receiver : ℕ → ℕ → List Post → Option ℕ
 receiver c p [] = None
-receiver c p (q ∷ qs) = if wishes c q.offers then Some p else receiver c (p + 1) qs
+receiver c p (q ∷ qs) = if receives_on c q.offers then Some p else receiver c (p + 1) qs
 
 abbrev pub meeting_by : ℕ → Option (ℕ × Rational) → Option ℕ → Option Meeting
 meeting_by c (Some s) (Some r) = Some (record { channel = c; sender = s.0; receiver = r; value = s.1 })
@@ -103,15 +104,16 @@ abbrev pub length_of_delay : Rational → Option Rational → Rational
 length_of_delay most None = most
 length_of_delay most (Some b) = lesser b most
 
--- what time does where no process wants a silent step and no channel is ready
+-- what time does where no process wants a silent step and no channel is ready: nothing waits for it, the horizon is
+-- reached, a working value of the delay doesn't fit, or so much time passes
 pub data Passing : Type 0 where
   NoBound : Passing
   AtHorizon : Passing
-  TooLarge : Passing
+  Overflows : Passing
   Took : (by : Rational) → Passing
 
 abbrev pub passing_for : Rational → Rational → List Post → Passing
-passing_for d clock ps = if delay_fits d clock ps then Took d else TooLarge
+passing_for d clock ps = if delay_fits d clock ps then Took d else Overflows
 
 abbrev pub passing_below : Ordering → Rational → Rational → List Post → Passing
 passing_below side.Less clock horizon ps = passing_for (length_of_delay (horizon -ℚ clock) (least_bound ps)) clock ps

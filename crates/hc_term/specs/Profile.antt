@@ -1,6 +1,7 @@
 -- The rules that a checked system keeps, as tests: expressions, communications and evolutions.
 use Rattle.std.specs.Prelude.{ℕ, ◌+◌, Bool, true, false, not, ◌&&◌, ◌==◌, nat_le, nat_lt, max, List, [], ◌∷◌, length, map, replicate, slice_set, Some, None}
 use Rattle.std.specs.List.{list_all, list_any}
+use Rattle.hc_limits.specs.Limits.{most_nodes, most_guards}
 use Rattle.hc_rational.specs.Words.{zero_ℚ}
 use Rattle.hc_term.specs.declared.expr.Expr.{Expr, fold-Expr}
 use Rattle.hc_term.specs.declared.expr.Expr.TheOpen.{Expr-F}
@@ -58,23 +59,12 @@ reach_in_layer (Cond-F.Or b c) = max b c
 abbrev pub reach_in : Cond → ℕ
 reach_in c = fold-Cond ℕ reach_in_layer c
 
-abbrev pub conjunction_layer : Cond-F Bool → Bool
-conjunction_layer Cond-F.True = true
-conjunction_layer Cond-F.False = true
-conjunction_layer (Cond-F.Compare how a b) = true
-conjunction_layer (Cond-F.Not c) = false
-conjunction_layer (Cond-F.And b c) = b && c
-conjunction_layer (Cond-F.Or b c) = false
-
-abbrev pub is_conjunction : Cond → Bool
-is_conjunction c = fold-Cond Bool conjunction_layer c
-
--- an expression over n variables, of at most 200 nodes, whose divisors are numbers other than 0; so a condition
+-- an expression over n variables, within the limit of nodes, whose divisors are numbers other than 0; so a condition
 abbrev pub is_expr : ℕ → Expr → Bool
-is_expr n e = nat_le (nodes e) 200 && nat_le (reach e) n && (form [] e).affine
+is_expr n e = nat_le (nodes e) most_nodes && nat_le (reach e) n && (form [] e).affine
 
 abbrev pub is_cond : ℕ → Cond → Bool
-is_cond n c = nat_le (nodes_in c) 200 && nat_le (reach_in c) n && is_domain [] c
+is_cond n c = nat_le (nodes_in c) most_nodes && nat_le (reach_in c) n && is_domain [] c
 
 -- ---- communications and evolutions
 
@@ -96,9 +86,9 @@ all_apart same (x ∷ xs) = not (list_any (same x) xs) && all_apart same xs
 abbrev pub ios_in : List Branch → List Io
 ios_in bs = map (λ b. (out-Branch b).io) bs
 
--- at most 32 guards, no channel guarded twice in one direction
+-- few guards, no channel guarded twice in one direction
 abbrev pub are_guards : ℕ → ℕ → List Io → Bool
-are_guards channels n ios = nat_le (length ios) 32 && list_all (is_io channels n) ios && all_apart is_same_io ios
+are_guards channels n ios = nat_le (length ios) most_guards && list_all (is_io channels n) ios && all_apart is_same_io ios
 
 -- which of n variables evolve
 abbrev pub pattern_from : Rates → List Rate → Rates
@@ -122,9 +112,9 @@ sends_affine pattern (Receive channel variable) = true
 abbrev pub are_rates : ℕ → Rates → List Rate → Bool
 are_rates n pattern rates = nat_le 1 (length rates) && all_apart same_variable rates && list_all (is_rate n pattern) rates
 
--- the domain of an evolution
+-- the domain of an evolution: any condition over affine expressions
 abbrev pub is_moving_domain : ℕ → Rates → Cond → Bool
-is_moving_domain n pattern domain = is_cond n domain && is_conjunction domain && is_domain pattern domain
+is_moving_domain n pattern domain = is_cond n domain && is_domain pattern domain
 
 -- an evolution of the constant-rate profile
 abbrev pub is_evolution : ℕ → List Rate → Cond → List Io → Bool

@@ -2,6 +2,7 @@
 use Rattle.std.specs.Prelude.{ℕ, zero, suc, ◌+◌, Bool, true, false, not, ◌&&◌, ◌||◌, ◌==◌, nat_eq, nat_le, sum, sum_by, count_by, map, List, length}
 use Rattle.std.specs.List.{list_all, list_any}
 use Rattle.std.specs.Cmp.Lexicographic.{pointwise}
+use Rattle.hc_limits.specs.Limits.{most_variables, most_processes, most_channels, most_statements, most_nodes_in_all}
 use Rattle.hc_term.specs.declared.stmt.Io.{Io}
 use Rattle.hc_term.specs.declared.stmt.Io.TheVariants.{Send, Receive}
 use Rattle.hc_term.specs.declared.stmt.Stmt.{Stmt, fold-Stmt}
@@ -99,10 +100,10 @@ uses sending c s = fold-Stmt Bool Bool (use_layer sending c) (λ b. is_on sendin
 
 -- ---- processes
 
--- at most 64 variables, at least one statement
+-- few variables, at least one statement
 abbrev pub is_process : ℕ → Process → Bool
 is_process channels p =
-    nat_le (length p.variables) 64 && nat_le 1 (length p.body) && list_all (is_stmt channels (length p.variables)) p.body
+    nat_le (length p.variables) most_variables && nat_le 1 (length p.body) && list_all (is_stmt channels (length p.variables)) p.body
 
 abbrev pub is_user : Bool → ℕ → Process → Bool
 is_user sending c p = list_any (uses sending c) p.body
@@ -129,14 +130,14 @@ abbrev pub all_below : ℕ → (ℕ → Bool) → Bool
 all_below zero f = true
 all_below (suc n) f = all_below n f && f n
 
--- 1 to 64 processes and at most 256 channels
+-- at least one process, and few processes and channels
 abbrev pub are_few : List Process → List (List ℕ) → Bool
-are_few ps channels = nat_le 1 (length ps) && nat_le (length ps) 64 && nat_le (length channels) 256
+are_few ps channels = nat_le 1 (length ps) && nat_le (length ps) most_processes && nat_le (length channels) most_channels
 
--- processes and channels of different names, at most 10,000 statements and 50,000 nodes of expressions, all of which keep the rules
+-- processes and channels of different names, within the limits of statements and of nodes in all, all of which keep the rules
 abbrev pub keeps_rules : List Process → List (List ℕ) → Bool
 keeps_rules ps channels =
     are_few ps channels &&
     (all_apart same_name ps && all_apart (pointwise nat_eq) channels) &&
-    (nat_le (sum_by body_statements ps) 10000 && nat_le (sum_by body_size ps) 50000) &&
+    (nat_le (sum_by body_statements ps) most_statements && nat_le (sum_by body_size ps) most_nodes_in_all) &&
     (list_all (is_process (length channels)) ps && all_below (length channels) (is_joined ps))

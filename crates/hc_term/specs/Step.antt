@@ -16,7 +16,7 @@ use Rattle.hc_term.specs.Process.{is_done, wants}
 use Rattle.hc_term.specs.Silent.{Outcome, Idle, Did, silent}
 use Rattle.hc_term.specs.Offers.{post}
 use Rattle.hc_term.specs.Communication.{sent, received, moved}
-use Rattle.hc_term.specs.Posts.{first_meeting, gift, wishes, Passing, Took, passing_on}
+use Rattle.hc_term.specs.Posts.{first_meeting, sent_on, receives_on, Passing, Took, passing_on}
 
 -- a process begins with its whole body, all variables 0 and no choices taken
 abbrev pub opening_of : Process → ProcessState
@@ -79,18 +79,18 @@ delayed d c = record { clock = c.clock +ℚ d; processes = map (moved d) c.proce
 
 -- ---- steps and runs
 
-abbrev pub GivesAt : ℕ → Rational → Option Post → Type 0
-GivesAt c v None = ⊥
-GivesAt c v (Some p) = gift c p.offers ≡ Some v
+abbrev pub SendsAt : ℕ → Rational → Option Post → Type 0
+SendsAt c v None = ⊥
+SendsAt c v (Some p) = sent_on c p.offers ≡ Some v
 
-abbrev pub WishesAt : ℕ → Option Post → Type 0
-WishesAt c None = ⊥
-WishesAt c (Some p) = wishes c p.offers ≡ true
+abbrev pub ReceivesAt : ℕ → Option Post → Type 0
+ReceivesAt c None = ⊥
+ReceivesAt c (Some p) = receives_on c p.offers ≡ true
 
 -- One process offers to send the value and another to receive: by the rules of a system no process is on both ends of a channel.
 pub record Meets (m : Meeting) (c : Configuration) : Type 0 where
-  pub gives : GivesAt m.channel m.value (slice_get (posts c) m.sender)
-  pub takes : WishesAt m.channel (slice_get (posts c) m.receiver)
+  pub gives : SendsAt m.channel m.value (slice_get (posts c) m.sender)
+  pub takes : ReceivesAt m.channel (slice_get (posts c) m.receiver)
 
 -- the step leads from the configuration c to the configuration new
 abbrev pub StepTo : Task → Configuration → Step → Configuration → Type 0

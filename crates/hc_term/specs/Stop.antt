@@ -7,14 +7,14 @@ use Rattle.hc_term.specs.declared.run.Stop.TheVariants.{Terminated, Deadlock, Ho
 use Rattle.hc_term.specs.declared.model.Configuration.{Configuration}
 use Rattle.hc_term.specs.Silent.{Outcome}
 use Rattle.hc_term.specs.Silent as silent
-use Rattle.hc_term.specs.Posts.{NoBound, AtHorizon, TooLarge}
+use Rattle.hc_term.specs.Posts.{NoBound, AtHorizon, Overflows}
 use Rattle.hc_term.specs.Step.{all_ended, passing, silent_of, IsRun}
 
 -- what a stop other than Limit says of a configuration
 abbrev pub StopsAt : Task → Configuration → Stop → Type 0
 StopsAt t c Limit = ⊥
 StopsAt t c (Overflow (Some p)) = silent_of t c p ≡ silent.Unfit
-StopsAt t c (Overflow None) = passing t c ≡ Some TooLarge
+StopsAt t c (Overflow None) = passing t c ≡ Some Overflows
 StopsAt t c Terminated = all_ended c.processes ≡ true
 StopsAt t c Deadlock = (passing t c ≡ Some NoBound) × (all_ended c.processes ≡ false)
 StopsAt t c Horizon = passing t c ≡ Some AtHorizon

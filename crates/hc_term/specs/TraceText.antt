@@ -1,4 +1,4 @@
--- The text of a run.
+-- The text of a run, version 2: a communication line names the channel, the process that sends and the one that receives.
 use Rattle.std.specs.Prelude.{ℕ, List, [], ◌∷◌, ◌++◌, slice_get, Option, Some, None, codes}
 use Rattle.hc_rational.specs.Words.{Rational}
 use Rattle.hc_frac.specs.Text.{text_of}
@@ -8,6 +8,7 @@ use Rattle.hc_term.specs.declared.run.Step.{Step}
 use Rattle.hc_term.specs.declared.run.Step.TheVariants.{Silent, Comm, Delay}
 use Rattle.hc_term.specs.declared.run.Item.{Item}
 use Rattle.hc_term.specs.declared.run.Stop.{Stop}
+use Rattle.hc_term.specs.Ends.{ends_of}
 use Rattle.hc_term.specs.declared.run.Stop.TheVariants.{Terminated, Deadlock, Horizon, Limit, Overflow}
 
 abbrev pub name_or_none : Option (List ℕ) → List ℕ
@@ -24,6 +25,11 @@ channel_name sys c = name_or_none (slice_get sys.channels c)
 abbrev pub process_name : System → ℕ → List ℕ
 process_name sys p = name_of (slice_get sys.processes p)
 
+-- the name of the process at one end of a channel
+abbrev pub end_name : System → Option ℕ → List ℕ
+end_name sys (Some p) = process_name sys p
+end_name sys None = []
+
 -- a line of words, with one space between them and a newline behind
 abbrev pub words : List (List ℕ) → List ℕ
 words [] = 10 ∷ []
@@ -33,7 +39,9 @@ words (w ∷ v ∷ ws) = w ++ 32 ∷ words (v ∷ ws)
 abbrev pub line_of_step : System → Rational → Step → List ℕ
 line_of_step sys at (Silent p None) = []
 line_of_step sys at (Silent p (Some v)) = words (text_of at ∷ codes "log" ∷ process_name sys p ∷ text_of v ∷ [])
-line_of_step sys at (Comm c v) = words (text_of at ∷ codes "comm" ∷ channel_name sys c ∷ text_of v ∷ [])
+line_of_step sys at (Comm c v) =
+    let ends = ends_of sys c in
+    words (text_of at ∷ codes "comm" ∷ channel_name sys c ∷ end_name sys ends.sender ∷ end_name sys ends.receiver ∷ text_of v ∷ [])
 line_of_step sys at (Delay d) = words (text_of at ∷ codes "delay" ∷ text_of d ∷ [])
 
 -- the lines of the visible steps
@@ -42,7 +50,7 @@ lines sys [] = []
 lines sys (i ∷ is) = line_of_step sys i.at i.step ++ lines sys is
 
 abbrev pub header : List ℕ
-header = codes "hcsp-trace 1" ++ 10 ∷ []
+header = codes "hcsp-trace 2" ++ 10 ∷ []
 
 -- the text of a run: the header, and a line for each communication, log and delay
 abbrev pub text : System → List Item → List ℕ

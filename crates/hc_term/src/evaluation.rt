@@ -3,13 +3,12 @@
 ghost use Rattle.std.specs.Prelude.{◌≡◌, ◌≢◌, ◌≤◌, [], pos, length, true, IsTrue, IfOk};
 ghost use Rattle.hc_rational.specs.Words.{fits};
 ghost use Rattle.hc_term.specs.declared.expr.Op.TheVariants.{Div};
-ghost use Rattle.hc_term.specs.Value.{work, applied, answer, division, is_defined, is_defined_test};
+ghost use Rattle.hc_term.specs.Value.{work, applied, division, is_defined, is_defined_test};
 ghost use Rattle.hc_term.specs.Profile.{reach, reach_in};
 ghost use Rattle.hc_term.specs.Evaluated.{if_fitting, value_in, truth_in};
 
-use crate::{Comparison, Cond, Expr, Op, Unfit};
+use crate::{Cond, Expr, Op, Unfit};
 use hc_frac::Frac;
-use std::cmp::Ordering;
 
 /// The value of an expression in this store, or `Unfit` exactly where the value of some part doesn't fit a fraction.
 /// The store has all its variables, and no divisor's value is 0.
@@ -51,13 +50,7 @@ fn combined(op: Op, left: Frac, right: Frac) -> Result<Frac, Unfit>
     ensures answer { result ≡ if_fitting (fits (applied op left right)) (applied op left right) }
     ensures exact { IfOk result (λ q. q ≡ applied op left right) }
 {
-    let exact = match op {
-        Op::Add => left.add(right),
-        Op::Sub => left.sub(right),
-        Op::Mul => left.mul(right),
-        Op::Div => left.div(right),
-    };
-    match exact {
+    match op.applied(left, right) {
         Some(value) => Ok(value),
         None => Err(Unfit),
     }
@@ -76,7 +69,7 @@ pub fn holds(cond: &Cond, store: &[Frac]) -> Result<bool, Unfit>
         Cond::Compare(how, left, right) => {
             let first = value(left.get(), store)?;
             let second = value(right.get(), store)?;
-            Ok(answered(*how, first.compare(second)))
+            Ok(how.answer(first.compare(second)))
         }
         Cond::Not(part) => {
             let inner = holds(part.get(), store)?;
@@ -92,19 +85,5 @@ pub fn holds(cond: &Cond, store: &[Frac]) -> Result<bool, Unfit>
             let second = holds(right.get(), store)?;
             Ok(first | second)
         }
-    }
-}
-
-/// The answer of a comparison, by how its left side lies to its right side.
-fn answered(how: Comparison, side: Ordering) -> bool
-    ensures { result ≡ answer how side }
-{
-    match how {
-        Comparison::Less => side == Ordering::Less,
-        Comparison::AtMost => side != Ordering::Greater,
-        Comparison::Equal => side == Ordering::Equal,
-        Comparison::NotEqual => side != Ordering::Equal,
-        Comparison::AtLeast => side != Ordering::Less,
-        Comparison::Greater => side == Ordering::Greater,
     }
 }

@@ -1,10 +1,14 @@
 //! Expressions and conditions over numbered variables.
 
-ghost use Rattle.std.specs.Prelude.{◌≡◌, IfOk};
+ghost use Rattle.std.specs.Prelude.{◌≡◌, ◌≢◌, pos, SomeIff, IfOk};
+ghost use Rattle.hc_rational.specs.Words.{IsFrac};
+ghost use Rattle.hc_term.specs.declared.expr.Op.TheVariants.{Div};
+ghost use Rattle.hc_term.specs.Value.{applied, answer};
 
 use hc_frac::Frac;
 use hc_list::Boxed;
 use std::alloc::{AllocError, Global};
+use std::cmp::Ordering;
 
 /// A sign between two expressions.
 #[derive(Clone, Copy, Debug, PartialEq, Eq)]
@@ -13,6 +17,21 @@ pub enum Op {
     Sub,
     Mul,
     Div,
+}
+
+impl Op {
+    /// What the sign makes of two numbers, of which the second isn't 0 where it divides, or `None` where that doesn't fit.
+    pub fn applied(self, left: Frac, right: Frac) -> Option<Frac>
+        requires { self ≡ Div → right.num ≢ pos 0 }
+        ensures { SomeIff result (IsFrac (applied self left right)) (applied self left right) }
+    {
+        match self {
+            Op::Add => left.add(right),
+            Op::Sub => left.sub(right),
+            Op::Mul => left.mul(right),
+            Op::Div => left.div(right),
+        }
+    }
 }
 
 /// How the two sides of a comparison are compared.
@@ -24,6 +43,22 @@ pub enum Comparison {
     NotEqual,
     AtLeast,
     Greater,
+}
+
+impl Comparison {
+    /// The answer of the comparison, by how its left side lies to its right side.
+    pub fn answer(self, side: Ordering) -> bool
+        ensures { result ≡ answer self side }
+    {
+        match self {
+            Comparison::Less => side == Ordering::Less,
+            Comparison::AtMost => side != Ordering::Greater,
+            Comparison::Equal => side == Ordering::Equal,
+            Comparison::NotEqual => side != Ordering::Equal,
+            Comparison::AtLeast => side != Ordering::Less,
+            Comparison::Greater => side == Ordering::Greater,
+        }
+    }
 }
 
 /// An expression over the variables of a process, which go by their numbers.

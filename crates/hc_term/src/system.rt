@@ -1,10 +1,9 @@
 //! Processes and systems.
 
-ghost use Rattle.std.specs.Prelude.{◌≡◌, ◌↔◌, IsTrue, IsSome, IfSome, IfOk};
+ghost use Rattle.std.specs.Prelude.{◌≡◌, IsTrue, IfOk};
 ghost use Rattle.hc_term.specs.Rules.{keeps_rules};
 
 use crate::Stmt;
-use crate::rules::are_ruled;
 use crate::stmt::copy_statements;
 use hc_frac::Name;
 use hc_list::List;
@@ -27,18 +26,16 @@ pub struct System {
 }
 
 impl System {
-    /// The system of these processes over these channels, or `None` where they break a rule.
-    pub fn new(processes: List<Process>, channels: List<Name>) -> Option<System>
-        ensures ruled { IsSome result ↔ IsTrue (keeps_rules processes channels) }
-        ensures parts { IfSome result (λ s. (s.processes ≡ processes) × (s.channels ≡ channels)) }
+    /// The system of these processes over these channels, which keep the rules: no test is made.
+    pub fn new(processes: List<Process>, channels: List<Name>) -> System
+        requires ruled { IsTrue (keeps_rules processes channels) }
+        ensures has_processes { result.processes ≡ processes }
+        ensures has_channels { result.channels ≡ channels }
     {
-        if !are_ruled(processes.as_slice(), channels.as_slice()) {
-            return None;
-        }
-        Some(System {
+        System {
             processes,
             channels,
-        })
+        }
     }
 
     /// An equal system.

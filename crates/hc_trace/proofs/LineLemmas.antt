@@ -24,10 +24,10 @@ pub tail_end : (vs : List (Bor (List ℕ))) (i : ℕ) → length vs ≤ i → ta
 tail_end vs i none = ap tail (drop_all i vs none)
 
 -- where the whole line has room, so has the next word
-pub word_fits : (line v rest whole : List ℕ) → line ++ 32 ∷ (v ++ rest) ≡ whole → length whole ≤ 256 → length line + 1 + length v ≤ 256
+pub word_fits : (line v rest whole : List ℕ) → line ++ 32 ∷ (v ++ rest) ≡ whole → length whole ≤ 320 → length line + 1 + length v ≤ 320
 word_fits line v rest whole e room =
     omega (arith, ap length e, length-append line (32 ∷ (v ++ rest)), length-append v rest)
 
 -- and the newline
-pub end_fits : (line whole : List ℕ) → line ++ 10 ∷ [] ≡ whole → length whole ≤ 256 → length line + 1 ≤ 256
+pub end_fits : (line whole : List ℕ) → line ++ 10 ∷ [] ≡ whole → length whole ≤ 320 → length line + 1 ≤ 320
 end_fits line whole e room = omega (arith, ap length e, length-append line (10 ∷ []))

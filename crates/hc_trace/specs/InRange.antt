@@ -1,16 +1,17 @@
 -- The numbers by which steps and stops name processes and channels of a system.
-use Rattle.std.specs.Prelude.{◌<◌, List, [], ◌∷◌, length, Some, None, ⊤}
+use Rattle.std.specs.Prelude.{◌<◌, List, [], ◌∷◌, length, IsTrue, Some, None, ⊤}
 use Rattle.hc_term.specs.declared.system.System.{System}
 use Rattle.hc_term.specs.declared.run.Step.{Step}
 use Rattle.hc_term.specs.declared.run.Step.TheVariants.{Silent, Comm, Delay}
 use Rattle.hc_term.specs.declared.run.Item.{Item}
 use Rattle.hc_term.specs.declared.run.Stop.{Stop}
+use Rattle.hc_term.specs.Ends.{is_joining, ends_of}
 use Rattle.hc_term.specs.declared.run.Stop.TheVariants.{Terminated, Deadlock, Horizon, Limit, Overflow}
 
--- the process or the channel that the step names is one of the system
+-- the process that the step names is one of the system, or the channel is, and both its ends are used
 abbrev pub StepInRange : System → Step → Type 0
 StepInRange sys (Silent p logged) = p < length sys.processes
-StepInRange sys (Comm c v) = c < length sys.channels
+StepInRange sys (Comm c v) = (c < length sys.channels) × IsTrue (is_joining (ends_of sys c))
 StepInRange sys (Delay d) = ⊤
 
 -- so it is with each step

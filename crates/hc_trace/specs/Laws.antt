@@ -9,7 +9,7 @@ use Rattle.hc_term.specs.Stop.{IsBehaviour}
 use Rattle.hc_term.specs.Canonical.{canonical}
 use Rattle.hc_trace.specs.InRange.{AreInRange, StopInRange}
 
--- the steps of every run of a task name processes and channels of its system
+-- the steps of every run of a task name processes and channels of its system, of each such channel both ends used
 abbrev pub RunsAreInRange : Type 0
 RunsAreInRange = (t : Task) (items : List Item) (end : Configuration) → Leads t (opening t) items end → AreInRange t.system items
 

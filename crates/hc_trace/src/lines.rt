@@ -8,10 +8,10 @@ ghost use Rattle.hc_trace.specs.Visible.{is_visible};
 
 use arrayvec::ArrayString;
 use hc_frac::Frac;
-use hc_term::{Item, Step, Stop, System};
+use hc_term::{Item, Step, Stop, System, channel_ends};
 
 /// The first line, with its newline.
-pub const HEADER: &[u8] = b"hcsp-trace 1\n";
+pub const HEADER: &[u8] = b"hcsp-trace 2\n";
 
 /// `HEADER`, for contracts.
 pub fn header() -> &'static [u8]
@@ -20,8 +20,9 @@ pub fn header() -> &'static [u8]
     HEADER
 }
 
-/// The line of a step, with its newline, or `None` for a silent step that logs nothing.
-pub fn event_line(system: &System, item: &Item) -> Option<ArrayString<256>>
+/// The line of a step, with its newline, or `None` for a silent step that logs nothing. A communication names its
+/// channel, the process that sends and the one that receives.
+pub fn event_line(system: &System, item: &Item) -> Option<ArrayString<320>>
     requires { StepInRange system.now item.now.step }
     ensures visible { IsSome result ↔ IsTrue (is_visible item.now.step) }
     ensures line { IfSome result (λ line. line.bytes ≡ line_of_step system.now item.now.at item.now.step) }
@@ -38,7 +39,14 @@ pub fn event_line(system: &System, item: &Item) -> Option<ArrayString<256>>
         }
         Step::Comm { channel, value } => {
             let name = system.channels.as_slice()[channel as usize].text();
-            line_of(clock.as_str(), &["comm", name, value.text().as_str()])
+            let ends = channel_ends(system, channel);
+            let sender = end_name(system, ends.sender);
+            let receiver = end_name(system, ends.receiver);
+            let value = value.text();
+            line_of(
+                clock.as_str(),
+                &["comm", name, sender, receiver, value.as_str()],
+            )
         }
         Step::Delay { by } => line_of(clock.as_str(), &["delay", by.text().as_str()]),
     };
@@ -46,7 +54,7 @@ pub fn event_line(system: &System, item: &Item) -> Option<ArrayString<256>>
 }
 
 /// The last line, with its newline: how the run stops, and the clock reached.
-pub fn end_line(system: &System, stop: Stop, clock: Frac) -> ArrayString<256>
+pub fn end_line(system: &System, stop: Stop, clock: Frac) -> ArrayString<320>
     requires { StopInRange system.now stop }
     ensures { result.bytes ≡ spec.end_line system.now clock stop }
 {
@@ -73,9 +81,21 @@ fn process_name(system: &System, process: u32) -> &str
     system.processes.as_slice()[process as usize].name.text()
 }
 
+/// The name of the process at one end of a channel.
+fn end_name(system: &System, end: Option<u32>) -> &str
+    requires { IfSome end (λ p. p < length system.now.processes) }
+    ensures name { result.now ≡ spec.end_name system.now end }
+    ensures short { length result.now ≤ 64 }
+{
+    match end {
+        Some(process) => process_name(system, process),
+        None => "",
+    }
+}
+
 /// The line of these words.
-fn line_of(first: &str, rest: &[&str]) -> ArrayString<256>
-    requires { length (words (first.now ∷ map (λ w. w.now) rest.now)) ≤ 256 }
+fn line_of(first: &str, rest: &[&str]) -> ArrayString<320>
+    requires { length (words (first.now ∷ map (λ w. w.now) rest.now)) ≤ 320 }
     ensures { result.bytes ≡ words (first.now ∷ map (λ w. w.now) rest.now) }
 {
     let mut line = ArrayString::new();
@@ -88,8 +108,8 @@ fn line_of(first: &str, rest: &[&str]) -> ArrayString<256>
 }
 
 /// Appends a space and a word.
-fn push_word(line: &mut ArrayString<256>, word: &str)
-    requires { array_string_len line.old + 1 + length word.now ≤ 256 }
+fn push_word(line: &mut ArrayString<320>, word: &str)
+    requires { array_string_len line.old + 1 + length word.now ≤ 320 }
     ensures { line.new.bytes ≡ line.old.bytes ++ 32 ∷ word.now }
 {
     line.push(' ');

@@ -6,10 +6,9 @@ use Rattle.hc_term.specs.Process.{wants}
 use Rattle.hc_term.specs.Communication.{moved}
 use Rattle.hc_term.specs.Offers.{post}
 use Rattle.hc_term.specs.Posts.{post_fits}
-use Rattle.hc_term.specs.Plain.{are_plain}
+use Rattle.hc_plain.specs.Plain.{are_plain}
 use Rattle.hc_plain.specs.States.{all_plain}
-use Rattle.hc_plain.proofs.Fronts.{front, get_or-front, set-front, front-all}
-use Rattle.hc_plain.proofs.Places.{all-get_or}
+use Rattle.hc_term.proofs.Fronts.{front, get_or-front, set-front, front-all, all-get_or}
 use Rattle.hc_plain.proofs.AfterDelay.{all_plain-moved, not-true}
 use Rattle.hc_plain.proofs.delay.move_all.Goals as goal
 

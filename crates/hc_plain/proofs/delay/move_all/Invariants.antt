@@ -1,6 +1,6 @@
 use Rattle.std.proofs.Common.{◌≡◌}
 use Rattle.hc_term.specs.Communication.{moved}
-use Rattle.hc_plain.proofs.Fronts.{front}
+use Rattle.hc_term.proofs.Fronts.{front}
 use Rattle.hc_plain.proofs.delay.move_all.Given as goal
 
 abbrev pub invariant-loop-at : goal.invariant-loop-at

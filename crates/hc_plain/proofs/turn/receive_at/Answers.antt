@@ -1,8 +1,9 @@
 use Rattle.std.proofs.Common.{ap, ◌∙◌}
 use Rattle.std.proofs.Math.ListN.{set, get_or}
 use Rattle.hc_term.specs.Communication.{received}
-use Rattle.hc_term.specs.Plain.{are_plain}
-use Rattle.hc_plain.proofs.Places.{changed-set, all-set, all-get_or, ready-within, ready-some}
+use Rattle.hc_plain.specs.Plain.{are_plain}
+use Rattle.hc_term.proofs.Fronts.{all-get_or}
+use Rattle.hc_plain.proofs.Places.{changed-set, all-set, ready-within, ready-some}
 use Rattle.hc_plain.proofs.turn.receive_at.Goals as goal
 
 pub receive-requires-clause-plain : goal.receive-requires-clause-plain

@@ -1,7 +1,7 @@
 use Rattle.std.proofs.Common.{ap, ◌∙◌}
 use Rattle.std.proofs.Math.ListN.{set}
 use Rattle.hc_term.specs.Communication.{sent}
-use Rattle.hc_term.specs.Plain.{are_plain}
+use Rattle.hc_plain.specs.Plain.{are_plain}
 use Rattle.hc_plain.proofs.Places.{changed-set, all-set}
 use Rattle.hc_plain.proofs.turn.send_at.Goals as goal
 

@@ -1,8 +1,9 @@
 use Rattle.std.proofs.Common.{ap, sym, refl, ◌∙◌}
 use Rattle.std.proofs.Math.ListN.{set, get_or}
 use Rattle.std.proofs.lemmas.List.{length-set}
-use Rattle.hc_term.specs.Plain.{are_plain}
-use Rattle.hc_plain.proofs.Places.{all-get_or, all-set}
+use Rattle.hc_plain.specs.Plain.{are_plain}
+use Rattle.hc_plain.proofs.Places.{all-set}
+use Rattle.hc_term.proofs.Fronts.{all-get_or}
 use Rattle.hc_plain.proofs.Found.{wanted-within, wanted-at, turn-silent}
 use Rattle.hc_plain.proofs.turn.step_silently.Goals as goal
 

@@ -3,7 +3,7 @@ use Rattle.std.specs.Prelude.{slice_set}
 use Rattle.hc_term.specs.declared.post.Post.{Post}
 use Rattle.hc_term.specs.declared.model.Mark.TheVariants.{Going}
 use Rattle.hc_term.specs.declared.model.ProcessState.{ProcessState}
-use Rattle.hc_term.specs.Posts.{wishes}
+use Rattle.hc_term.specs.Posts.{receives_on}
 use Rattle.hc_code.specs.Stands.{At}
 use Rattle.hc_step.specs.declared.meeting.Taken.{Taken}
 use Rattle.hc_step.specs.Represents.{Represents}
@@ -34,7 +34,7 @@ returns-in-Some-clause-received c t clock q all r offered =
     let code = c.args.code.now.instrs in
     let k = received_leads t c.args.channel l.variables clock c.args.value q q.store q.mark q.todo i
     (values_at l.variables l.variables code l.place i c.requires.usable c.at.ensures refl) (agrees_at t t code l.place q.todo i all r.at_place c.at.ensures)
-    (subst (λ (p : Post). wishes c.args.channel p.offers ≡ true) r.same_post offered) in
+    (subst (λ (p : Post). receives_on c.args.channel p.offers ≡ true) r.same_post offered) in
     let found : received_way c.args.channel (ways_of i) ≡ Some c.in-Some.taken =
     sym (ap (received_way c.args.channel) c.ways_of-ways.ensures) ∙ (sym c.received_way.ensures ∙ c.in-Some.is) in
     let same : k.takes.taken ≡ c.in-Some.taken = let e : Some k.takes.taken ≡ Some c.in-Some.taken = sym k.takes.is ∙ found in cc in
@@ -50,5 +50,5 @@ returns-in_default-clause-received c t clock q all r offered =
     let code = c.args.code.now.instrs in
     let k = received_leads t c.args.channel l.variables clock c.args.value q q.store q.mark q.todo i
     (values_at l.variables l.variables code l.place i c.requires.usable c.at.ensures refl) (agrees_at t t code l.place q.todo i all r.at_place c.at.ensures)
-    (subst (λ (p : Post). wishes c.args.channel p.offers ≡ true) r.same_post offered) in
+    (subst (λ (p : Post). receives_on c.args.channel p.offers ≡ true) r.same_post offered) in
     absurd (c.in_default.not-Some k.takes.taken (c.received_way.ensures ∙ (ap (received_way c.args.channel) c.ways_of-ways.ensures ∙ k.takes.is)))

@@ -1,6 +1,0 @@
-use Rattle.std.proofs.Common.{◌≡◌, drop}
-use Rattle.hc_term.specs.Profile.{pattern_from}
-use Rattle.hc_term.proofs.profile.mark_evolving.Given as goal
-
-abbrev pub invariant-loop-rate : goal.invariant-loop-rate
-invariant-loop-rate l = pattern_from l.initial.pattern l.rates ≡ pattern_from l.pattern (drop l.rate-index l.rates)
