@@ -1,7 +1,7 @@
 -- Conditions form by form: how each is judged and which crossings it has, and induction over them.
 use Rattle.std.proofs.Common.{rules, ◌≡◌, refl, subst, Bool, true, false, not, ◌&&◌, ◌||◌, None}
 use denote.Hole.Carrier
-use Rattle.hc_rational.specs.Words.{Rational}
+use Rattle.hc_rational.specs.Words.{Rational, earlier}
 use Rattle.hc_term.specs.declared.expr.Expr.{Expr}
 use Rattle.hc_term.specs.declared.expr.Comparison.{Comparison}
 use Rattle.hc_term.specs.declared.expr.Cond.{Cond, roll-Cond, the_lemmas}
@@ -11,7 +11,7 @@ use Rattle.hc_term.specs.declared.expr.Cond.TheVariants as plain
 use Rattle.hc_term.specs.declared.expr.Cond.TheViews as seen
 use Rattle.hc_term.specs.Value.{Store, Sides, judge, answer}
 use Rattle.hc_term.specs.Motion.{Rates, form}
-use Rattle.hc_term.specs.EndMoment.{crossing, gap_of, earlier, kept, first_failing, domain_fits, is_domain}
+use Rattle.hc_term.specs.EndMoment.{crossing, gap_of, kept, first_failing, domain_fits, is_domain}
 
 -- ---- what is asked of each form
 

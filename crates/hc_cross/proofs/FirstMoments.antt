@@ -1,11 +1,9 @@
 -- The first moment from 0 on at which a test holds, and that of two tests.
-use Rattle.std.proofs.Common.{◌≡◌, ◌⊎◌, inl, inr, sym, ap, ap₂, subst, ◌∙◌, Bool, true, false, ◌||◌, Option, Some, None}
+use Rattle.std.proofs.Common.{◌≡◌, ◌⊎◌, inl, inr, refl, sym, ap, ap₂, subst, ◌∙◌, Bool, true, false, ◌||◌, Option, Some, None}
 use Rattle.std.proofs.lemmas.Bool.{or_cases, or_from, or_left, or_right}
-use Rattle.hc_rational.specs.Words.{Rational, zero_ℚ, ◌≤ℚ◌, lesser}
+use Rattle.hc_rational.specs.Words.{Rational, zero_ℚ, ◌≤ℚ◌, lesser, earlier}
 use Rattle.hc_rational.proofs.OrderLaws.{≤ℚ_antisymm, ≤ℚ_trans}
 use Rattle.hc_rational.proofs.RankLaws.{lesser_is}
-use Rattle.hc_term.specs.EndMoment.{earlier}
-use Rattle.hc_cross.proofs.Earlier.{earlier_is}
 
 pub record IsFirst (f : Rational → Bool) (d : Rational) : Type 0 where
   pub passes : f d ≡ true
@@ -40,7 +38,7 @@ first_of_both f g h d e j i k =
       | inl m ↦ inl (ap f m ∙ i.passes)
       | inr m ↦ inr (ap g m ∙ k.passes)
     ] in
-    Some_moment l (earlier_is d e) (record {
+    Some_moment l refl (record {
       passes = j l ∙ elim found [
         | inl m ↦ or_left (f l) (g l) m
         | inr m ↦ or_right (f l) (g l) m

@@ -1,12 +1,12 @@
 -- The end moment is the first one at which the condition fails; that of `a && b` is the earlier of both.
 use Rattle.std.proofs.Common.{◌≡◌, inl, inr, refl, sym, ap, ap₂, subst, ◌∙◌, Bool, true, false, not, ◌&&◌, ◌||◌, Option, Some, None, if◌then◌else◌}
-use Rattle.hc_rational.specs.Words.{Rational, zero_ℚ, ◌≤ℚ◌, ◌<ℚ◌}
+use Rattle.hc_rational.specs.Words.{Rational, zero_ℚ, ◌≤ℚ◌, ◌<ℚ◌, earlier}
 use Rattle.hc_rational.proofs.OrderLaws.{≤ℚ_refl, ≤ℚ_trans, ≤ℚ-or-<ℚ, ≤ℚ_antisymm}
 use Rattle.hc_term.specs.declared.expr.Cond.{Cond}
 use Rattle.hc_term.specs.declared.expr.Cond.TheViews as seen
 use Rattle.hc_term.specs.Value.{Store, judge}
 use Rattle.hc_term.specs.Motion.{Rates}
-use Rattle.hc_term.specs.EndMoment.{sides_when, fails, earlier, first_failing, end_moment}
+use Rattle.hc_term.specs.EndMoment.{sides_when, fails, first_failing, end_moment}
 use Rattle.hc_cross.proofs.Earlier.{IsBy}
 use Rattle.hc_cross.proofs.FirstMoments.{First, Some_moment, No_moment, one_first, first_of_two}
 use Rattle.hc_cross.proofs.CondForms.{judge-And}

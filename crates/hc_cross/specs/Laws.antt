@@ -1,10 +1,11 @@
 -- How expressions move, that a condition has one end moment, and what a delay leaves of it.
 use Rattle.std.specs.Prelude.{◌≡◌, length, IsTrue, Option, Some, None, ⊤}
-use Rattle.hc_rational.specs.Words.{Rational, zero_ℚ, ◌+ℚ◌, ◌-ℚ◌, ◌*ℚ◌, ◌≤ℚ◌}
+use Rattle.hc_rational.specs.Words.{Rational, zero_ℚ, ◌+ℚ◌, ◌*ℚ◌, ◌≤ℚ◌}
 use Rattle.hc_term.specs.declared.expr.Expr.{Expr}
 use Rattle.hc_term.specs.declared.expr.Cond.{Cond}
 use Rattle.hc_term.specs.Value.{Store, val}
 use Rattle.hc_term.specs.Motion.{Rates, after, line, form}
+use Rattle.hc_term.specs.Moved.{less_by}
 use Rattle.hc_term.specs.EndMoment.{EndsAt, Endless, end_moment, is_domain}
 
 -- An affine expression moves along its line.
@@ -22,10 +23,6 @@ OneEndMoment =
 abbrev pub IsWithin : Rational → Option Rational → Type 0
 IsWithin d None = ⊤
 IsWithin d (Some b) = d ≤ℚ b
-
-abbrev pub less_by : Rational → Option Rational → Option Rational
-less_by d None = None
-less_by d (Some b) = Some (b -ℚ d)
 
 -- After a delay that is at most the end moment, the end moment is the old one less the delay.
 abbrev pub EndAfterDelay : Type 0

@@ -2,16 +2,15 @@
 
 ghost use Rattle.std.specs.Prelude.{◌≡◌, ◌≤◌, length, IsTrue};
 ghost use Rattle.std.specs.Result.{OkIff};
-ghost use Rattle.hc_term.specs.EndMoment.{domain_fits, earlier, fails, is_domain, kept};
+ghost use Rattle.hc_term.specs.EndMoment.{domain_fits, fails, is_domain, kept};
 ghost use Rattle.hc_term.specs.EndMoment as end;
 ghost use Rattle.hc_term.specs.Profile.{reach_in};
 ghost use Rattle.hc_cross.specs.Found.{KnowsCrossing, end_by};
 
 use crate::gaps::{Gap, gap_between};
 use crate::truth::{truth_of, truth_of_comparison};
-use hc_frac::Frac;
+use hc_frac::{Frac, earlier};
 use hc_term::{Comparison, Cond, Unfit};
-use std::cmp::Ordering;
 
 /// When a condition whose comparisons are affine turns false, in time units from now and at least 0, or `None`
 /// where it never does. `Unfit` exactly where a working value of one of its comparisons doesn't fit a fraction,
@@ -36,7 +35,7 @@ pub fn end_moment(
         Cond::And(left, right) => {
             let first = end_moment(left.get(), store, rates)?;
             let second = end_moment(right.get(), store, rates)?;
-            Ok(earlier_of(first, second))
+            Ok(earlier(first, second))
         }
         Cond::Not(_) | Cond::Or(_, _) => end_by_crossings(domain, store, rates),
     }
@@ -101,7 +100,7 @@ fn first_failing(
         Cond::And(left, right) | Cond::Or(left, right) => {
             let first = first_failing(left.get(), whole, store, rates)?;
             let second = first_failing(right.get(), whole, store, rates)?;
-            Ok(earlier_of(first, second))
+            Ok(earlier(first, second))
         }
     }
 }
@@ -124,18 +123,4 @@ fn failing_crossing(
     };
     let truth = truth_of(whole, store, rates, crossing)?;
     Ok(if truth.fails() { Some(crossing) } else { None })
-}
-
-/// The lesser of two moments, of which one or both may be missing.
-fn earlier_of(one: Option<Frac>, other: Option<Frac>) -> Option<Frac>
-    ensures { result ≡ earlier one other }
-{
-    match (one, other) {
-        (None, moment) => moment,
-        (Some(moment), None) => Some(moment),
-        (Some(first), Some(second)) => match first.compare(second) {
-            Ordering::Greater => Some(second),
-            Ordering::Less | Ordering::Equal => Some(first),
-        },
-    }
 }

@@ -67,12 +67,7 @@ fn combined(op: Op, left: &Linear, right: &Linear) -> Result<Linear, Unfit>
     requires { op ≡ Div → right.now.at.num ≢ pos 0 }
     ensures { OkIff result (IsTrue (fits (applied op left.now.at right.now.at) && fits (slope_by op left.now.at left.now.slope right.now.at right.now.slope))) (linear_by op left.now right.now) }
 {
-    let at = match op {
-        Op::Add => left.at.add(right.at),
-        Op::Sub => left.at.sub(right.at),
-        Op::Mul => left.at.mul(right.at),
-        Op::Div => left.at.div(right.at),
-    };
+    let at = op.applied(left.at, right.at);
     let slope = match op {
         Op::Add => left.slope.add(right.slope),
         Op::Sub => left.slope.sub(right.slope),

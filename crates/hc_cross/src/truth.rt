@@ -3,7 +3,6 @@
 ghost use Rattle.std.specs.Prelude.{◌≡◌, ◌≤◌, ◌&&◌, not, length, IsTrue};
 ghost use Rattle.std.specs.Result.{OkIff};
 ghost use Rattle.hc_rational.specs.Words.{zero_ℚ, ◌≤ℚ◌};
-ghost use Rattle.hc_term.specs.Value.{answer};
 ghost use Rattle.hc_term.specs.EndMoment.{domain_fits, is_domain};
 ghost use Rattle.hc_term.specs.Profile.{reach_in};
 ghost use Rattle.hc_cross.specs.Found.{KnowsCrossing, truth_by, truth_at};
@@ -11,7 +10,6 @@ ghost use Rattle.hc_cross.specs.Found.{KnowsCrossing, truth_by, truth_at};
 use crate::gaps::{Gap, gap_between, just_after, side_at};
 use hc_frac::Frac;
 use hc_term::{Comparison, Cond, Unfit};
-use std::cmp::Ordering;
 
 /// Whether a condition holds at a moment, and just after it.
 #[derive(Clone, Copy, Debug, PartialEq, Eq)]
@@ -91,21 +89,7 @@ pub(crate) fn truth_of_comparison(how: Comparison, gap: &Gap, moment: Frac) -> T
     let here = side_at(gap, moment);
     let next = just_after(here, gap.line.slope.compare(Frac::zero()));
     Truth {
-        here: answered(how, here),
-        next: answered(how, next),
-    }
-}
-
-/// The answer of a comparison, by how its left side lies to its right side.
-fn answered(how: Comparison, side: Ordering) -> bool
-    ensures { result ≡ answer how side }
-{
-    match how {
-        Comparison::Less => side == Ordering::Less,
-        Comparison::AtMost => side != Ordering::Greater,
-        Comparison::Equal => side == Ordering::Equal,
-        Comparison::NotEqual => side != Ordering::Equal,
-        Comparison::AtLeast => side != Ordering::Less,
-        Comparison::Greater => side == Ordering::Greater,
+        here: how.answer(here),
+        next: how.answer(next),
     }
 }

@@ -1,6 +1,6 @@
 use Rattle.std.proofs.Common.{◌≡◌, ◌&&◌, ap₂, sym, ◌∙◌}
 use Rattle.hc_term.specs.declared.expr.Cond.TheViews as seen
-use Rattle.hc_term.specs.EndMoment.{earlier}
+use Rattle.hc_rational.specs.Words.{earlier}
 use Rattle.hc_cross.proofs.CondForms.{fits-And}
 use Rattle.hc_cross.proofs.LeastFailing.{end-And}
 use Rattle.hc_cross.proofs.ending.+end_moment.Goals as goal
@@ -14,6 +14,6 @@ returns-in_ok-second-in-And t c =
     let is : c.args.domain.now ≡ seen.And c.get-in-And.result.now c.get-in-And-2.result.now = cc in (
       fits-And s r c.args.domain.now a b is
           ∙ ap₂ (λ x y. x && y) c.in_ok-first-in-And.ensures.0 c.in_ok-second-in-And.ensures.0,
-      c.earlier_of.ensures ∙ ap₂ earlier c.in_ok-first-in-And.ensures.1 c.in_ok-second-in-And.ensures.1
+      c.earlier.ensures ∙ ap₂ earlier c.in_ok-first-in-And.ensures.1 c.in_ok-second-in-And.ensures.1
           ∙ sym (end-And s r c.args.domain.now a b is),
     )
