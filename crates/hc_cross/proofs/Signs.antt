@@ -34,7 +34,8 @@ none_opposite side.Greater = refl
 -- a slope of the opposite sign isn't 0
 pub slope_apart : (u w : Rational) → opposite (rank u zero_ℚ) (rank w zero_ℚ) ≡ true → w ≢ zero_ℚ
 slope_apart u w h e =
-    let none : opposite (rank u zero_ℚ) (rank w zero_ℚ) ≡ false = ap (opposite (rank u zero_ℚ)) (is_on w e) ∙ none_opposite (rank u zero_ℚ) in
+    let none : opposite (rank u zero_ℚ) (rank w zero_ℚ) ≡ false =
+    ap (opposite (rank u zero_ℚ)) (is_on w e) ∙ none_opposite (rank u zero_ℚ) in
     absurd (cc (sym h ∙ none))
 
 pub numerator_apart : (u w : Rational) → opposite (rank u zero_ℚ) (rank w zero_ℚ) ≡ true → w.num ≢ pos 0
@@ -73,10 +74,14 @@ stays_over u w t k h j =
 -- ---- before and after the crossing
 
 sum_of_less : (u q : Rational) → q <ℚ neg_ℚ u → u +ℚ q <ℚ zero_ℚ
-sum_of_less u q h = subst (λ z. z <ℚ zero_ℚ) (+ℚ_comm q u) (subst (λ z. q +ℚ u <ℚ z) (+ℚ_comm (neg_ℚ u) u ∙ +ℚ-neg u) (+ℚ-<ℚ q (neg_ℚ u) u h))
+sum_of_less u q h =
+    subst (λ z. z <ℚ zero_ℚ) (+ℚ_comm q u)
+    (subst (λ z. q +ℚ u <ℚ z) (+ℚ_comm (neg_ℚ u) u ∙ +ℚ-neg u) (+ℚ-<ℚ q (neg_ℚ u) u h))
 
 sum_of_more : (u q : Rational) → neg_ℚ u <ℚ q → zero_ℚ <ℚ u +ℚ q
-sum_of_more u q h = subst (λ z. zero_ℚ <ℚ z) (+ℚ_comm q u) (subst (λ z. z <ℚ q +ℚ u) (+ℚ_comm (neg_ℚ u) u ∙ +ℚ-neg u) (+ℚ-<ℚ (neg_ℚ u) q u h))
+sum_of_more u q h =
+    subst (λ z. zero_ℚ <ℚ z) (+ℚ_comm q u)
+    (subst (λ z. z <ℚ q +ℚ u) (+ℚ_comm (neg_ℚ u) u ∙ +ℚ-neg u) (+ℚ-<ℚ (neg_ℚ u) q u h))
 
 -- what the slope makes of the crossing time
 way : (u w : Rational) → w ≢ zero_ℚ → w *ℚ (neg_ℚ u /ℚ w) ≡ neg_ℚ u
@@ -86,22 +91,29 @@ pub at_crossing : (u w : Rational) → w ≢ zero_ℚ → u +ℚ w *ℚ (neg_ℚ
 at_crossing u w n = ap (λ z. u +ℚ z) (way u w n) ∙ +ℚ-neg u
 
 rising : (w p t : Rational) → zero_ℚ <ℚ w → p <ℚ t → w *ℚ p <ℚ w *ℚ t
-rising w p t k h = subst (λ z. z <ℚ w *ℚ t) (*ℚ_comm p w) (subst (λ z. p *ℚ w <ℚ z) (*ℚ_comm t w) (*ℚ-<ℚ p t w k h))
+rising w p t k h =
+    subst (λ z. z <ℚ w *ℚ t) (*ℚ_comm p w) (subst (λ z. p *ℚ w <ℚ z) (*ℚ_comm t w) (*ℚ-<ℚ p t w k h))
 
 falling : (w p t : Rational) → w <ℚ zero_ℚ → p <ℚ t → w *ℚ t <ℚ w *ℚ p
 falling w p t k h =
     let turned : zero_ℚ <ℚ neg_ℚ w = subst (λ z. z <ℚ neg_ℚ w) neg-zero (neg-<ℚ w zero_ℚ k) in
     let back : (x : Rational) → neg_ℚ (neg_ℚ w *ℚ x) ≡ w *ℚ x = λ x. ap neg_ℚ (neg-*ℚ w x) ∙ neg-neg (w *ℚ x) in
-    subst (λ z. z <ℚ w *ℚ p) (back t) (subst (λ z. neg_ℚ (neg_ℚ w *ℚ t) <ℚ z) (back p) (neg-<ℚ (neg_ℚ w *ℚ p) (neg_ℚ w *ℚ t) (rising (neg_ℚ w) p t turned h)))
+    let rises : neg_ℚ w *ℚ p <ℚ neg_ℚ w *ℚ t = rising (neg_ℚ w) p t turned h in
+    subst (λ z. z <ℚ w *ℚ p) (back t)
+    (subst (λ z. neg_ℚ (neg_ℚ w *ℚ t) <ℚ z) (back p) (neg-<ℚ (neg_ℚ w *ℚ p) (neg_ℚ w *ℚ t) rises))
 
 pub rising_before : (u w t : Rational) → zero_ℚ <ℚ w → w ≢ zero_ℚ → t <ℚ neg_ℚ u /ℚ w → u +ℚ w *ℚ t <ℚ zero_ℚ
-rising_before u w t k n h = sum_of_less u (w *ℚ t) (subst (λ z. w *ℚ t <ℚ z) (way u w n) (rising w t (neg_ℚ u /ℚ w) k h))
+rising_before u w t k n h =
+    sum_of_less u (w *ℚ t) (subst (λ z. w *ℚ t <ℚ z) (way u w n) (rising w t (neg_ℚ u /ℚ w) k h))
 
 pub rising_after : (u w t : Rational) → zero_ℚ <ℚ w → w ≢ zero_ℚ → neg_ℚ u /ℚ w <ℚ t → zero_ℚ <ℚ u +ℚ w *ℚ t
-rising_after u w t k n h = sum_of_more u (w *ℚ t) (subst (λ z. z <ℚ w *ℚ t) (way u w n) (rising w (neg_ℚ u /ℚ w) t k h))
+rising_after u w t k n h =
+    sum_of_more u (w *ℚ t) (subst (λ z. z <ℚ w *ℚ t) (way u w n) (rising w (neg_ℚ u /ℚ w) t k h))
 
 pub falling_before : (u w t : Rational) → w <ℚ zero_ℚ → w ≢ zero_ℚ → t <ℚ neg_ℚ u /ℚ w → zero_ℚ <ℚ u +ℚ w *ℚ t
-falling_before u w t k n h = sum_of_more u (w *ℚ t) (subst (λ z. z <ℚ w *ℚ t) (way u w n) (falling w t (neg_ℚ u /ℚ w) k h))
+falling_before u w t k n h =
+    sum_of_more u (w *ℚ t) (subst (λ z. z <ℚ w *ℚ t) (way u w n) (falling w t (neg_ℚ u /ℚ w) k h))
 
 pub falling_after : (u w t : Rational) → w <ℚ zero_ℚ → w ≢ zero_ℚ → neg_ℚ u /ℚ w <ℚ t → u +ℚ w *ℚ t <ℚ zero_ℚ
-falling_after u w t k n h = sum_of_less u (w *ℚ t) (subst (λ z. w *ℚ t <ℚ z) (way u w n) (falling w (neg_ℚ u /ℚ w) t k h))
+falling_after u w t k n h =
+    sum_of_less u (w *ℚ t) (subst (λ z. w *ℚ t <ℚ z) (way u w n) (falling w (neg_ℚ u /ℚ w) t k h))

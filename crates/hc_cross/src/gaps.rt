@@ -1,28 +1,29 @@
-//! How the two sides of a comparison move towards each other, and when the comparison turns false.
+//! How the two sides of a comparison move towards each other, and how they lie at a moment.
 
 ghost use Rattle.std.specs.Prelude.{◌≡◌, ◌≤◌, ◌&&◌, length, IsTrue};
 ghost use Rattle.std.specs.Result.{OkIff};
-ghost use Rattle.hc_rational.specs.Words.{fits, rank, zero_ℚ, ◌-ℚ◌};
-ghost use Rattle.hc_term.specs.Value.{answer};
+ghost use Rattle.hc_rational.specs.Words.{fits, zero_ℚ, ◌-ℚ◌, ◌≤ℚ◌};
 ghost use Rattle.hc_term.specs.Motion.{form};
 ghost use Rattle.hc_term.specs.EndMoment.{crossing, fits_if, gap_of, opposite, or_else};
+ghost use Rattle.hc_term.specs.EndMoment as end;
 ghost use Rattle.hc_term.specs.Profile.{reach};
-ghost use Rattle.hc_cross.specs.Found.{linear_of, gap_on, minus, end_of_one};
+ghost use Rattle.hc_cross.specs.Found.{linear_of, gap_on, minus, KnowsCrossing};
 
 use crate::lines::{Linear, affine};
 use hc_frac::Frac;
-use hc_term::{Comparison, Expr, Unfit};
+use hc_term::{Expr, Unfit};
 use std::cmp::Ordering;
 
 /// The left side of a comparison minus its right side, and when that becomes 0 later.
 #[derive(Clone, Copy, Debug, PartialEq, Eq)]
-pub struct Gap {
+pub(crate) struct Gap {
     pub line: Linear,
     pub crossing: Option<Frac>,
 }
 
-/// The gap between two affine expressions, or `Unfit` exactly where one of its working values doesn't fit a fraction.
-pub fn gap_between(
+/// The gap between two affine expressions, or `Unfit` exactly where one of its working values doesn't fit a
+/// fraction.
+pub(crate) fn gap_between(
     left: &Expr,
     right: &Expr,
     store: &[Frac],
@@ -83,45 +84,32 @@ fn are_opposite(at: Ordering, slope: Ordering) -> bool
     }
 }
 
-/// When a comparison with this gap turns false, or `None` where it never does.
-pub fn end_of_gap(how: Comparison, gap: &Gap) -> Option<Frac>
-    ensures { result ≡ end_of_one how (rank gap.now.line.at zero_ℚ) (rank gap.now.line.slope zero_ℚ) gap.now.crossing }
+/// Where the gap lies to 0 at a moment from now on. It is told from the signs of its value and slope now and by
+/// whether its crossing has come: its value at the moment might not fit a fraction.
+pub(crate) fn side_at(gap: &Gap, moment: Frac) -> Ordering
+    requires crossing { KnowsCrossing gap.now }
+    requires from_now { zero_ℚ ≤ℚ moment }
+    ensures { result ≡ end.side_at gap.now.line.at gap.now.line.slope moment }
 {
     let now = gap.line.at.compare(Frac::zero());
     let later = gap.line.slope.compare(Frac::zero());
-    let holds_now = answered(how, now);
-    let holds_next = answered(how, just_after(now, later));
-    if !(holds_now & holds_next) {
-        return Some(Frac::zero());
+    match gap.crossing {
+        Some(crossing) => match moment.compare(crossing) {
+            Ordering::Less => now,
+            Ordering::Equal => Ordering::Equal,
+            Ordering::Greater => later,
+        },
+        None if moment.is_zero() => now,
+        None => just_after(now, later),
     }
-    let holds_crossing = answered(how, Ordering::Equal);
-    let holds_beyond = answered(how, later);
-    if holds_crossing & holds_beyond {
-        return None;
-    }
-    gap.crossing
 }
 
 /// Where a value lies just after a moment, by where it lies at the moment and by the sign of its slope.
-fn just_after(at: Ordering, slope: Ordering) -> Ordering
+pub(crate) fn just_after(at: Ordering, slope: Ordering) -> Ordering
     ensures { result ≡ or_else at slope }
 {
     match at {
         Ordering::Equal => slope,
         Ordering::Less | Ordering::Greater => at,
-    }
-}
-
-/// The answer of a comparison, by how its left side lies to its right side.
-fn answered(how: Comparison, side: Ordering) -> bool
-    ensures { result ≡ answer how side }
-{
-    match how {
-        Comparison::Less => side == Ordering::Less,
-        Comparison::AtMost => side != Ordering::Greater,
-        Comparison::Equal => side == Ordering::Equal,
-        Comparison::NotEqual => side != Ordering::Equal,
-        Comparison::AtLeast => side != Ordering::Less,
-        Comparison::Greater => side == Ordering::Greater,
     }
 }

@@ -5,6 +5,7 @@ mod ending;
 mod gaps;
 mod laws;
 mod lines;
+mod truth;
 
 pub use ending::end_moment;
 pub use laws::{end_moments, moving_lines};

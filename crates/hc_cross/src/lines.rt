@@ -20,8 +20,8 @@ pub struct Linear {
     pub slope: Frac,
 }
 
-/// The line of an affine expression where variables move with these rates, or `Unfit` exactly where the value or the
-/// slope of some part doesn't fit a fraction.
+/// The line of an affine expression where variables move with these rates, or `Unfit` exactly where the value or
+/// the slope of some part doesn't fit a fraction.
 pub fn affine(expr: &Expr, store: &[Frac], rates: &[Option<Frac>]) -> Result<Linear, Unfit>
     requires in_range { reach expr.now ≤ length store.now }
     requires paired { length rates.now ≡ length store.now }

@@ -1,5 +1,5 @@
-use Rattle.hc_cross.proofs.Turning.{right, one}
-use Rattle.hc_cross.proofs.Delays.{bound_after}
+use Rattle.hc_cross.proofs.EndsRight.{right, one}
+use Rattle.hc_cross.proofs.Delays.{end_after}
 use Rattle.hc_cross.proofs.laws.end_moments.Goals as goal
 
 pub returns-clause-right : goal.returns-clause-right
@@ -9,4 +9,4 @@ pub returns-clause-one : goal.returns-clause-one
 returns-clause-one c = one
 
 pub returns-clause-delay : goal.returns-clause-delay
-returns-clause-delay c = bound_after
+returns-clause-delay c = end_after

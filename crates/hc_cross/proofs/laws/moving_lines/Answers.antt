@@ -1,4 +1,4 @@
-use Rattle.hc_cross.proofs.Along.{moves}
+use Rattle.hc_cross.proofs.AffineLines.{moves}
 use Rattle.hc_cross.proofs.laws.moving_lines.Goals as goal
 
 pub returns : goal.returns
