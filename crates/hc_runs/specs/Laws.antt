@@ -84,7 +84,7 @@ RunsKeepRules =
     (t : Task) (items : List Item) (c : Configuration) → Leads t (opening t) items c →
     IsTrue (list_all (is_ruled (length t.system.channels)) c.processes) × IsTrue (list_all keeps_profile c.processes)
 
--- at the opening each process wants a silent step
+-- at the opening the first process wants a silent step
 abbrev pub OpeningGoesOn : Type 0
 OpeningGoesOn = (t : Task) → wanting_from 0 (opening t).processes ≡ Some 0
 
