@@ -9,8 +9,8 @@ use Rattle.hc_term.specs.declared.expr.Cond.{Cond}
 use Rattle.hc_term.specs.Value.{Store, holds}
 use Rattle.hc_term.specs.Motion.{Rates, value_after, after}
 use Rattle.hc_term.specs.EndMoment.{EndsAt, Endless, end_moment}
-use Rattle.hc_term.specs.Moved.{less_by}
-use Rattle.hc_cross.specs.Laws.{IsWithin, EndAfterDelay}
+use Rattle.hc_term.specs.Moved.{IsWithin, less_by}
+use Rattle.hc_cross.specs.Laws.{EndAfterDelay}
 use Rattle.hc_cross.proofs.EndsRight.{IsRight, right, one}
 
 -- ---- two delays

@@ -5,7 +5,7 @@ use Rattle.hc_term.specs.declared.expr.Expr.{Expr}
 use Rattle.hc_term.specs.declared.expr.Cond.{Cond}
 use Rattle.hc_term.specs.Value.{Store, val}
 use Rattle.hc_term.specs.Motion.{Rates, after, line, form}
-use Rattle.hc_term.specs.Moved.{less_by}
+use Rattle.hc_term.specs.Moved.{IsWithin, less_by}
 use Rattle.hc_term.specs.EndMoment.{EndsAt, Endless, end_moment, is_domain}
 
 -- An affine expression moves along its line.
@@ -19,10 +19,6 @@ abbrev pub OneEndMoment : Type 0
 OneEndMoment =
     (c : Cond) (s : Store) (r : Rates) (d : Rational) → EndsAt c s r d →
     ((e : Rational) → EndsAt c s r e → d ≡ e) × ¬ (Endless c s r)
-
-abbrev pub IsWithin : Rational → Option Rational → Type 0
-IsWithin d None = ⊤
-IsWithin d (Some b) = d ≤ℚ b
 
 -- After a delay that is at most the end moment, the end moment is the old one less the delay.
 abbrev pub EndAfterDelay : Type 0

@@ -8,5 +8,5 @@ mod lines;
 mod truth;
 
 pub use ending::end_moment;
-pub use laws::{end_moments, moving_lines};
+pub use laws::{end_moment_laws, line_laws};
 pub use lines::{Linear, affine};

@@ -1,6 +1,6 @@
 use Rattle.hc_cross.proofs.EndsRight.{right, one}
 use Rattle.hc_cross.proofs.Delays.{end_after}
-use Rattle.hc_cross.proofs.laws.end_moments.Goals as goal
+use Rattle.hc_cross.proofs.laws.end_moment_laws.Goals as goal
 
 pub returns-clause-right : goal.returns-clause-right
 returns-clause-right c = right
