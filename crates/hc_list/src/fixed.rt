@@ -39,7 +39,6 @@ impl<T, const ROOM: usize> FixedList<T, ROOM> {
     {
         self.items.as_slice()
     }
-
 }
 
 impl<T: Drop, const ROOM: usize> FixedList<T, ROOM> {

@@ -6,7 +6,7 @@ ghost use Rattle.hc_term.specs.Posts.{sender, receiver, meeting_on, first_meetin
 ghost use Rattle.hc_term.specs.Canonical.{wanting_from};
 ghost use Rattle.hc_plain.specs.States.{all_plain, posts_of};
 
-use crate::state::{offer_sent_on, is_receiving, wants_step};
+use crate::state::{is_receiving, offer_sent_on, wants_step};
 use hc_frac::Frac;
 use hc_term::{Meeting, ProcessState};
 

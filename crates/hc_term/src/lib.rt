@@ -1,8 +1,8 @@
 //! The terms of a checked system, and what they mean: the definitions stand in `specs/`.
 #![tactic(auto)]
 
-mod evaluation;
 mod ends;
+mod evaluation;
 mod expr;
 mod form;
 mod laws;

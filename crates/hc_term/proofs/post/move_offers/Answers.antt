@@ -7,8 +7,14 @@ use Rattle.hc_term.proofs.post.move_offers.Goals as goal
 
 pub bounds-as_slice-at : goal.bounds-as_slice-at
 bounds-as_slice-at c =
-    omega (arith, c.loop-at-test.true, ap length c.as_slice-at-end.ensures.elements, ap length c.as_slice.ensures.elements,
-    ap length c.loop-at.invariant, length-front (offer_after c.args.by) c.loop-at.at c.args.offers.now)
+    omega (
+      arith,
+      c.loop-at-test.true,
+      ap length c.as_slice-at-end.ensures.elements,
+      ap length c.as_slice.ensures.elements,
+      ap length c.loop-at.invariant,
+      length-front (offer_after c.args.by) c.loop-at.at c.args.offers.now,
+    )
 
 module _ (c : goal.After-index-as_slice-at) where
   -- the element at hand is still as it was at the start
