@@ -1,5 +1,5 @@
 -- The end moment of an evolution of the profile: a delay takes away from it, and it isn't past.
-use Rattle.std.proofs.Common.{◌≡◌, refl, ◌∙◌, IsTrue, true, List, length, Option, Some, None}
+use Rattle.std.proofs.Common.{◌≡◌, ◌∙◌, IsTrue, true, List, length, Option, Some, None}
 use Rattle.std.specs.Prelude.{MatchOption}
 use Rattle.std.proofs.lemmas.Bool.{and_parts}
 use Rattle.hc_rational.specs.Words.{Rational, zero_ℚ, ◌≤ℚ◌}
