@@ -10,7 +10,7 @@ use Rattle.hc_term.specs.Step.{posts, changed, SendsAt, ReceivesAt}
 use Rattle.hc_term.proofs.Places.{set-set_other, get-changed_other}
 use Rattle.hc_term.proofs.Reached.{meetings_join_two}
 use Rattle.hc_runs.specs.Laws.{PostsMeet, ReadyJoins}
-use Rattle.hc_runs.proofs.ReadyMeets.{ready_meets}
+use Rattle.hc_term.proofs.Ready.{ready_meets}
 use Rattle.hc_runs.proofs.Basics.{set_twice}
 
 -- a change of one process is a change of its post

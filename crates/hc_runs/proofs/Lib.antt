@@ -9,7 +9,6 @@ pub mod Moving
 pub mod Taking
 pub mod Resting
 pub mod Within
-pub mod ReadyMeets
 pub mod Fired
 pub mod Inside
 pub mod Ruled

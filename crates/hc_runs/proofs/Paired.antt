@@ -12,8 +12,8 @@ use Rattle.hc_term.specs.declared.post.Post.{Post}
 use Rattle.hc_term.specs.declared.model.ProcessState.{ProcessState}
 use Rattle.hc_term.specs.Process.{bound}
 use Rattle.hc_term.specs.Offers.{post}
-use Rattle.hc_term.specs.Rules.{is_user, is_joined, all_below}
-use Rattle.hc_term.proofs.Used.{all_below-false}
+use Rattle.hc_term.specs.Rules.{is_user, is_joined}
+use Rattle.hc_term.proofs.Reached as reached
 use Rattle.hc_term.proofs.Handed.{offered-used}
 use Rattle.hc_term.specs.Together.{is_offer, offered, is_on_both, not_past}
 use Rattle.hc_runs.specs.Laws.{PostsArePaired}
@@ -103,18 +103,12 @@ module _ (channels : ℕ) (clock : Rational) where
 
 -- ---- the law
 
-all_below-at : (n k : ℕ) (f : ℕ → Bool) → k < n → all_below n f ≡ true → f k ≡ true
-all_below-at n k f below e = by_value (f k) refl where
-  by_value : (b : Bool) → f k ≡ b → f k ≡ true
-  by_value true h = h
-  by_value false h = absurd (true≢false (sym e ∙ all_below-false n k f below h))
-
 module _ (t : Task) (c : ℕ) (below : c < length t.system.channels) where
   abbrev bodies : List Process
   bodies = t.system.processes
 
   joined : is_joined bodies c ≡ true
-  joined = all_below-at (length t.system.channels) c (is_joined bodies) below (and_parts _ _ (and_parts _ _ t.system.kept).1).1
+  joined = reached.joined t c below
 
   users_once : (sending : Bool) → count_by (is_user sending c) bodies ≤ 1
   users_once true = leb-true _ 1 (and_parts _ _ (and_parts _ _ joined).0).0

@@ -18,6 +18,7 @@ use Rattle.hc_term.specs.Process.{Layer, bound, is_due}
 use Rattle.hc_term.specs.Offers.{offer_of, offers_of, offers_here, post_at, post}
 use Rattle.hc_term.specs.Communication.{if_sends, sent_branch, sent_here, sent_at, sent, Taken, if_receives, received_branch, received_here, received_at, received, moved_at, moved}
 use Rattle.hc_term.specs.Posts.{offer_sent_on, offer_receives_on, sent_on, first_of}
+use Rattle.hc_term.specs.Together.{is_offer}
 use Rattle.hc_term.specs.Rules.{is_on, uses}
 use Rattle.hc_term.proofs.Used.{any_use, any_branch_uses}
 use Rattle.hc_term.proofs.Bodies.{uses_here, uses_is, UsesNoMore, no_more-same, no_more-rest, Inside, no_more-front}
@@ -117,11 +118,6 @@ pub moved-no_more : (d : Rational) (p : ProcessState) → UsesNoMore p.todo (mov
 moved-no_more d p = moved_at-no_more d p p.mark p.todo
 
 -- ---- offers
-
--- whether an offer sends, or receives, on channel c
-abbrev pub is_offer : Bool → ℕ → Offer → Bool
-is_offer true c o = is_some (offer_sent_on c o)
-is_offer false c o = offer_receives_on c o
 
 abbrev pub offers_on : Bool → ℕ → List Offer → Bool
 offers_on sending c os = list_any (is_offer sending c) os

@@ -143,7 +143,7 @@ all_below-at n k f below e = by_value (f k) refl where
   by_value false h = absurd (true≢false (sym e ∙ all_below-false n k f below h))
 
 -- in a system that keeps the rules each channel joins two processes
-joined : (t : Task) (c : ℕ) → c < length t.system.channels → is_joined t.system.processes c ≡ true
+pub joined : (t : Task) (c : ℕ) → c < length t.system.channels → is_joined t.system.processes c ≡ true
 joined t c below =
     all_below-at (length t.system.channels) c (is_joined t.system.processes) below
     (and_parts _ _ (and_parts _ _ t.system.kept).1).1

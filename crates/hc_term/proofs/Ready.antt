@@ -7,7 +7,7 @@ use Rattle.hc_term.specs.declared.post.Post.{Post}
 use Rattle.hc_term.specs.declared.model.Meeting.{Meeting}
 use Rattle.hc_term.specs.declared.model.Configuration.{Configuration}
 use Rattle.hc_term.specs.Posts.{first_of, sent_on, receives_on, numbered, sender, receiver, meeting_by, meeting_on, meeting_from}
-use Rattle.hc_term.specs.Step.{posts, ready, met, SendsAt, ReceivesAt, StepTo}
+use Rattle.hc_term.specs.Step.{posts, ready, met, SendsAt, ReceivesAt, Meets, StepTo}
 use Rattle.hc_term.proofs.Places.{StandsAt, stands_here, stands_later, stands_at}
 
 -- ---- the ends
@@ -79,9 +79,15 @@ meeting_from-joins c zero ps m e = cc
 meeting_from-joins c (suc n) ps m e =
     meeting_next c n ps m (meeting_on c ps) refl (meeting_from-joins (c + 1) n ps m) e
 
+-- the meeting on the ready channel: its channel is in range, and both its ends are offered
+pub ready_meets : (t : Task) (c : Configuration) (m : Meeting) → ready t c ≡ Some m →
+    (m.channel < length t.system.channels) × Meets m c
+ready_meets t c m e =
+    let j = meeting_from-joins 0 (length t.system.channels) (posts c) m e in
+    (omega (arith, j.0), record { gives = j.1.gives; takes = j.1.takes })
+
 -- the ready channel may be communicated on
 pub ready-steps : (t : Task) (c : Configuration) (m : Meeting) → ready t c ≡ Some m →
     StepTo t c (Comm m.channel m.value) (met m c)
 ready-steps t c m e =
-    let j = meeting_from-joins 0 (length t.system.channels) (posts c) m e in
-    (m, refl, refl, omega (arith, j.0), record { gives = j.1.gives; takes = j.1.takes }, refl)
+    let j = ready_meets t c m e in (m, refl, refl, j.0, j.1, refl)
