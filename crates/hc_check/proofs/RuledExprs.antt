@@ -1,5 +1,5 @@
 -- An expression or condition against which nothing is found keeps the rules once its names are numbers.
-use Rattle.std.proofs.Common.{◌≡◌, refl, ap, sym, subst, ◌∙◌, ◌≤◌, false, IsTrue, List, [], ◌∷◌, length, None, arith}
+use Rattle.std.proofs.Common.{◌≡◌, refl, ap, subst, ◌∙◌, ◌≤◌, false, IsTrue, List, [], length, None, arith}
 use Rattle.std.specs.Prelude.{slice_index_or}
 use Rattle.std.proofs.lemmas.Bool.{le-leb}
 use Rattle.hc_ast.specs.Bare.{Word}
@@ -15,7 +15,7 @@ use Rattle.hc_finds.specs.Names.{number_in}
 use Rattle.hc_finds.proofs.ExprForms as inside
 use Rattle.hc_check.specs.Numbered.{expr_over, cond_over}
 use Rattle.hc_check.proofs.Clean.{is_named}
-use Rattle.hc_check.proofs.EachLists.{both, both_empty, each_both, each_weaker}
+use Rattle.hc_check.proofs.EachLists.{both, each_both, each_weaker}
 use Rattle.hc_check.proofs.ExprInduction.{CondSteps, by_cond}
 use Rattle.hc_check.proofs.NumberedForms as over
 use Rattle.hc_check.proofs.NumberedSizes.{AreNamed, nodes_same, cond_nodes_same, reach_within, cond_reach_within}

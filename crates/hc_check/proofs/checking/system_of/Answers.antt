@@ -12,4 +12,4 @@ new-requires c =
     let channels : c.in_ok-channels.channels ≡ channels_of flat.processes = c.in_ok-channels.ensures {u = tt} ∙ c.requires.channels in
     let numbered : c.in_ok-processes.processes ≡ map (process_over (channels_of flat.processes)) flat.processes =
     c.in_ok-processes.ensures {u = tt} ∙ ap (λ ps. map (process_over (channels_of ps)) ps) c.as_slice.ensures in
-    record { ruled = ap₂ keeps_rules numbered channels ∙ kept flat (well flat c.requires.flat) c.requires.nothing_found; }
+    record { ruled = ap₂ keeps_rules numbered channels ∙ kept flat (well flat c.requires.flat) c.requires.nothing_found }
