@@ -17,7 +17,7 @@ use Rattle.hc_term.specs.Motion.{Rates, rates_in}
 use Rattle.hc_term.specs.Process.{Layer, bound, is_due}
 use Rattle.hc_term.specs.Offers.{offer_of, offers_of, offers_here, post_at, post}
 use Rattle.hc_term.specs.Communication.{if_sends, sent_branch, sent_here, sent_at, sent, Taken, if_receives, received_branch, received_here, received_at, received, moved_at, moved}
-use Rattle.hc_term.specs.Posts.{offer_sent_on, offer_receives_on, sent_on, first_of}
+use Rattle.hc_term.specs.Posts.{offer_sent_on, sent_on, first_of}
 use Rattle.hc_term.specs.Together.{is_offer}
 use Rattle.hc_term.specs.Rules.{is_on, uses}
 use Rattle.hc_term.proofs.Used.{any_use, any_branch_uses}

@@ -1,5 +1,5 @@
 -- What a delay and a meeting make of what processes show.
-use Rattle.std.specs.Prelude.{ℕ, if◌then◌else◌, List, [], map, slice_set, Option, Some, None, ⊤}
+use Rattle.std.specs.Prelude.{if◌then◌else◌, List, [], map, slice_set, Option, Some, None, ⊤}
 use Rattle.hc_rational.specs.Words.{Rational, ◌+ℚ◌, ◌-ℚ◌, ◌*ℚ◌, ◌≤ℚ◌}
 use Rattle.hc_term.specs.declared.post.Post.{Post}
 use Rattle.hc_term.specs.declared.post.Moving.{Moving}
