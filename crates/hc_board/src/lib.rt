@@ -1,0 +1,10 @@
+//! The board on which the processes of a system post what they show, where they meet, and on which time passes.
+#![tactic(auto)]
+
+mod board;
+mod delayed;
+mod delays;
+mod meetings;
+
+pub use board::Board;
+pub use delayed::Delayed;
