@@ -1,0 +1,5 @@
+pub mod Marked
+pub mod ReadyChannels
+pub mod Found
+pub mod DelayLength
+pub mod TakenFits

@@ -9,6 +9,6 @@ pub record Seen : Type 0 where
   pub channels : ℕ
 
 -- what every board keeps
-pub record KeepsLimits (posts : List Post) (channels : ℕ) : Type 0 where
-  pub processes : length posts ≤ most_processes
-  pub channels : channels ≤ most_channels
+pub record KeepsLimits (ps : List Post) (n : ℕ) : Type 0 where
+  pub processes : length ps ≤ most_processes
+  pub channels : n ≤ most_channels

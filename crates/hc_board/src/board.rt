@@ -4,7 +4,7 @@ ghost use Rattle.std.specs.Prelude.{◌≡◌, ◌<◌, ◌≤◌, IfOk, length,
 ghost use Rattle.hc_limits.specs.Limits.{most_processes, most_channels};
 ghost use Rattle.hc_term.specs.Offers.{going_post};
 ghost use Rattle.hc_term.specs.Posts.{first_meeting, passing_on, delay_fits, post_fits};
-ghost use Rattle.hc_term.specs.Moved.{moved_post};
+ghost use Rattle.hc_term.specs.Moved.{moved_post, fired};
 ghost use Rattle.hc_board.specs.Seen.{Seen, KeepsLimits};
 ghost use Rattle.hc_board.specs.Answers.{answer_of, after_delay, after_meeting};
 
@@ -69,8 +69,7 @@ impl Board {
     {
         let meeting = least_meeting(self.posts.as_slice(), self.channels);
         if let Some(meeting) = &meeting {
-            set_going(self.posts.as_mut_slice(), meeting.sender as usize);
-            set_going(self.posts.as_mut_slice(), meeting.receiver as usize);
+            meet(self.posts.as_mut_slice(), meeting);
         }
         meeting
     }
@@ -94,7 +93,7 @@ fn going_posts(alloc: Global, count: u32) -> Result<Vec<Post>, AllocError>
     ensures { IfOk result (λ posts. posts.items ≡ replicate count going_post) }
 {
     let mut posts = Vec::with_capacity(alloc, count as usize)?;
-    for _ in 0..count {
+    for _made in 0..count {
         posts.push(Post::going())?;
     }
     Ok(posts)
@@ -114,4 +113,14 @@ fn set_going(posts: &mut [Post], process: usize)
     ensures { posts.new ≡ slice_set posts.old process going_post }
 {
     posts[process].show(Phase::Going);
+}
+
+/// Shows that the two that met are going.
+fn meet(posts: &mut [Post], meeting: &Meeting)
+    requires sender { meeting.now.sender < length posts.old }
+    requires receiver { meeting.now.receiver < length posts.old }
+    ensures { posts.new ≡ fired meeting.now posts.old }
+{
+    set_going(posts, meeting.sender as usize);
+    set_going(posts, meeting.receiver as usize);
 }

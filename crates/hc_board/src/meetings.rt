@@ -1,6 +1,6 @@
 //! Which processes meet.
 
-ghost use Rattle.std.specs.Prelude.{◌≡◌, ◌<◌, ◌≤◌, ◌&&◌, ℕ, length, replicate, false, slice_index, is_some};
+ghost use Rattle.std.specs.Prelude.{◌≡◌, ◌<◌, ◌≤◌, ◌&&◌, ℕ, length, replicate, true, false, slice_set, is_some};
 ghost use Rattle.hc_limits.specs.Limits.{most_processes, most_channels};
 ghost use Rattle.hc_term.specs.Posts.{sent_on, receives_on, offer_sent_on, sender, receiver, meeting_on, first_meeting};
 ghost use Rattle.hc_board.specs.Marks.{with_mark, with_marks, with_all_marks};
@@ -86,17 +86,30 @@ fn meeting_at(posts: &[Post], channel: u32) -> Option<Meeting>
     })
 }
 
+/// Marks a channel.
+fn set_mark(marks: &mut [bool], channel: u32)
+    ensures { marks.new ≡ slice_set marks.old channel true }
+{
+    if (channel as usize) < marks.len() {
+        marks[channel as usize] = true;
+    }
+}
+
 /// Marks the channel of an offer that sends, or receives.
 fn mark(offer: &Offer, sending: bool, marks: &mut [bool])
     ensures { marks.new ≡ with_mark sending offer.now marks.old }
 {
-    let channel = match (offer, sending) {
-        (Offer::Send { channel, .. }, true) => *channel,
-        (Offer::Receive { channel }, false) => *channel,
-        _ => return,
-    };
-    if let Some(place) = marks.get_mut(channel as usize) {
-        *place = true;
+    match offer {
+        Offer::Send { channel, .. } => {
+            if sending {
+                set_mark(marks, *channel);
+            }
+        }
+        Offer::Receive { channel } => {
+            if !sending {
+                set_mark(marks, *channel);
+            }
+        }
     }
 }
 
