@@ -2,4 +2,3 @@ pub mod Marked
 pub mod ReadyChannels
 pub mod Found
 pub mod DelayLength
-pub mod TakenFits

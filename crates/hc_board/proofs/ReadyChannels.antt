@@ -1,11 +1,10 @@
 -- A channel has a meeting exactly where both of its ends are offered.
-use Rattle.std.proofs.Common.{◌≡◌, ◌<◌, ◌≤◌, ◌+◌, ◌-◌, ℕ, zero, suc, Bool, true, false, ◌&&◌, ◌||◌, ◌==◌, List, [], ◌∷◌, Option, Some, None, is_some, if◌then◌else◌, refl, sym, ap, ap₂, ◌∙◌, arith}
+use Rattle.std.proofs.Common.{◌≡◌, ◌<◌, ◌+◌, ◌-◌, ℕ, suc, Bool, true, false, ◌&&◌, ◌||◌, List, [], ◌∷◌, Option, Some, None, is_some, if◌then◌else◌, refl, ap, ap₂, ◌∙◌, arith}
 use Rattle.std.specs.List.{list_any}
 use Rattle.hc_rational.specs.Words.{Rational}
 use Rattle.hc_term.specs.declared.post.Post.{Post}
 use Rattle.hc_term.specs.declared.post.Offer.{Offer}
-use Rattle.hc_term.specs.declared.model.Meeting.{Meeting}
-use Rattle.hc_term.specs.Posts.{first_of, offer_sent_on, offer_receives_on, sent_on, receives_on, numbered, sender, receiver, meeting_by, meeting_on, meeting_from, first_meeting}
+use Rattle.hc_term.specs.Posts.{first_of, offer_sent_on, offer_receives_on, sent_on, receives_on, numbered, sender, receiver, meeting_by, meeting_on, meeting_from}
 use Rattle.hc_term.specs.Together.{is_offer}
 use Rattle.hc_board.specs.Marks.{is_offered}
 

@@ -5,6 +5,8 @@ mod board;
 mod delayed;
 mod delays;
 mod meetings;
+#[cfg(test)]
+mod tests;
 
 pub use board::Board;
 pub use delayed::Delayed;

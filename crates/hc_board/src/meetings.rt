@@ -14,7 +14,12 @@ fn sent_value(offers: &[Offer], channel: u32) -> Option<Frac>
     ensures { result ≡ sent_on channel offers.now }
 {
     for offer in offers {
-        if let Offer::Send { channel: on, at, .. } = offer {
+        if let Offer::Send {
+            channel: on,
+            at,
+            ..
+        } = offer
+        {
             if *on == channel {
                 return Some(*at);
             }

@@ -1,4 +1,4 @@
-use Rattle.std.proofs.Common.{◌≡◌, sym, ap, subst, ◌∙◌, inl, inr}
+use Rattle.std.proofs.Common.{sym, ap, subst, ◌∙◌, inl, inr}
 use Rattle.hc_rational.specs.Words.{Rational, ◌+ℚ◌, IsFrac}
 use Rattle.hc_board.proofs.DelayLength.{to_bound, past_bound}
 use Rattle.hc_board.proofs.delays.delay_to_bound.Goals as goal

@@ -1,4 +1,4 @@
-use Rattle.std.proofs.Common.{◌<◌, ℕ, length, sym, ap, subst, ◌∙◌}
+use Rattle.std.proofs.Common.{sym, ap, ◌∙◌}
 use Rattle.hc_term.specs.Posts.{first_meeting}
 use Rattle.hc_board.proofs.Found.{AreThere, meeting-there}
 use Rattle.hc_board.proofs.board.Board.fire.Goals as goal
