@@ -1,0 +1,4 @@
+pub mod Marked
+pub mod ReadyChannels
+pub mod Found
+pub mod DelayLength

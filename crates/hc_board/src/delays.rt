@@ -1,0 +1,140 @@
+//! How long a delay lasts, and what it does.
+
+ghost use Rattle.std.specs.Prelude.{◌≡◌, map, IsTrue, ◌&&◌, SomeIff};
+ghost use Rattle.std.specs.List.{list_all};
+ghost use Rattle.hc_rational.specs.Words.{◌+ℚ◌, ◌-ℚ◌, lesser, fits, IsFrac};
+ghost use Rattle.hc_term.specs.Posts.{least_bound, is_timed, length_of_delay, post_fits, passing_for, passing_on};
+ghost use Rattle.hc_term.specs.Moved.{moved_post};
+ghost use Rattle.hc_board.specs.Answers.{answer_of};
+
+use crate::delayed::Delayed;
+use hc_frac::{Frac, earlier};
+use hc_term::Post;
+use std::cmp::Ordering;
+
+// ---- what waits for time
+
+/// Whether some post has a bound or evolves.
+fn is_some_timed(posts: &[Post]) -> bool
+    ensures { result ≡ is_timed posts.now }
+{
+    for post in posts {
+        if post.bound.is_some() | !post.moving.as_slice().is_empty() {
+            return true;
+        }
+    }
+    false
+}
+
+/// The least bound of all posts.
+fn least_bound_of(posts: &[Post]) -> Option<Frac>
+    ensures { result ≡ least_bound posts.now }
+{
+    match posts {
+        [] => None,
+        [first, rest @ ..] => earlier(first.bound, least_bound_of(rest)),
+    }
+}
+
+// ---- how long it lasts
+
+/// The same fraction, which fits.
+fn known(number: Frac) -> Frac
+    ensures same { result ≡ number }
+    ensures fits { IsFrac number }
+{
+    let _ = number.num();
+    number
+}
+
+/// A delay of this length, where the moment at which it ends fits.
+fn delay_by(clock: Frac, by: Frac) -> Option<Frac>
+    ensures { SomeIff result (IsTrue (fits by && fits (clock +ℚ by))) by }
+{
+    let by = known(by);
+    match clock.add(by) {
+        Some(_) => Some(by),
+        None => None,
+    }
+}
+
+/// A delay up to the bound, where what is left to the horizon doesn't fit.
+fn delay_to_bound(clock: Frac, horizon: Frac, bound: Frac) -> Option<Frac>
+    requires { ¬ IsFrac (horizon -ℚ clock) }
+    ensures { let by = lesser bound (horizon -ℚ clock) in
+        SomeIff result (IsTrue (fits by && fits (clock +ℚ by))) by }
+{
+    let Some(end) = clock.add(known(bound)) else {
+        return None;
+    };
+    match end.compare(horizon) {
+        Ordering::Less => Some(bound),
+        Ordering::Equal => Some(bound),
+        Ordering::Greater => None,
+    }
+}
+
+/// How long the delay lasts, where that fits and the moment at which it ends.
+fn length_of(clock: Frac, horizon: Frac, least: Option<Frac>) -> Option<Frac>
+    ensures { let by = length_of_delay (horizon -ℚ clock) least in
+        SomeIff result (IsTrue (fits by && fits (clock +ℚ by))) by }
+{
+    match (least, horizon.sub(clock)) {
+        (None, Some(rest)) => delay_by(clock, rest),
+        (None, None) => None,
+        (Some(bound), Some(rest)) => delay_by(clock, bound.lesser(rest)),
+        (Some(bound), None) => delay_to_bound(clock, horizon, bound),
+    }
+}
+
+// ---- whether it fits, and what it does
+
+/// Whether the working values of all posts fit.
+fn can_all_move(posts: &[Post], by: Frac) -> bool
+    ensures { result ≡ list_all (post_fits by) posts.now }
+{
+    for post in posts {
+        if !post.fits(by) {
+            return false;
+        }
+    }
+    true
+}
+
+/// How time passes below the horizon.
+fn passing_below_horizon(posts: &[Post], clock: Frac, horizon: Frac) -> Delayed
+    ensures { result ≡ answer_of (passing_for (length_of_delay (horizon -ℚ clock) (least_bound posts.now)) clock posts.now) }
+{
+    let Some(by) = length_of(clock, horizon, least_bound_of(posts)) else {
+        return Delayed::Unfit;
+    };
+    if can_all_move(posts, by) {
+        Delayed::Took(by)
+    } else {
+        Delayed::Unfit
+    }
+}
+
+/// How time passes.
+pub(crate) fn passing(posts: &[Post], clock: Frac, horizon: Frac) -> Delayed
+    ensures { result ≡ answer_of (passing_on clock horizon posts.now) }
+{
+    if !is_some_timed(posts) {
+        return Delayed::NoBound;
+    }
+    match clock.compare(horizon) {
+        Ordering::Less => passing_below_horizon(posts, clock, horizon),
+        Ordering::Equal => Delayed::AtHorizon,
+        Ordering::Greater => Delayed::AtHorizon,
+    }
+}
+
+/// Lets so many time units pass for all posts.
+pub(crate) fn move_all(posts: &mut [Post], by: Frac)
+    requires { IsTrue (list_all (post_fits by) posts.old) }
+    ensures { posts.new ≡ map (moved_post by) posts.old }
+{
+    for at in 0..posts.len() {
+        posts[at].move_by(by);
+    }
+}

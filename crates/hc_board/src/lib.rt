@@ -1,0 +1,12 @@
+//! The board on which the processes of a system post what they show, where they meet, and on which time passes.
+#![tactic(auto)]
+
+mod board;
+mod delayed;
+mod delays;
+mod meetings;
+#[cfg(test)]
+mod tests;
+
+pub use board::Board;
+pub use delayed::Delayed;
