@@ -4,18 +4,21 @@ ghost use Rattle.std.specs.Prelude.{◌≡◌, ◌<◌, length, IsTrue, IfSome};
 ghost use Rattle.hc_rational.specs.Words.{◌≤ℚ◌};
 ghost use Rattle.hc_step.specs.Usable.{is_usable_code, is_still, evolves};
 
+use crate::acts::Act;
+use crate::showing::{put_item, put_post, put_stretch};
 use hc_code::{Instr, ProcCode, compile};
 use hc_frac::Frac;
-use hc_step::{Local, Stretch, codes};
+use hc_step::{Local, codes};
 use hc_term::System;
-use std::alloc::Global;
+use std::alloc::{AllocError, Global};
 use std::cmp::Ordering;
-use std::test::Fail;
 
 #[derive(Drop)]
 pub(crate) struct Runner {
     code: ProcCode,
     local: Local,
+    clock: Frac,
+    seed: u64,
     ghost usable: { IsTrue (is_usable_code local.variables code.instrs) },
     ghost within: { local.place < length code.instrs },
 }
@@ -57,64 +60,74 @@ fn is_to_bound(by: Frac, bound: Option<Frac>) -> bool
     }
 }
 
-/// The code of a process of the system.
-pub(crate) fn compiled(alloc: Global, system: &System, number: usize) -> Result<ProcCode, Fail> {
-    let Some(process) = system.processes.as_slice().get(number) else {
-        return Err("there is no such process".into());
-    };
-    Ok(compile(alloc, process)?)
-}
-
 impl Runner {
-    /// The first process of the system at its beginning, as the process of this number.
-    pub(crate) fn start(alloc: Global, system: &System, number: u32) -> Result<Runner, Fail> {
+    /// The first process of the system at its beginning and at moment 0, as the process of this number. There is none
+    /// where the process has an evolution, which has no steps yet.
+    pub(crate) fn start(
+        alloc: Global,
+        system: &System,
+        number: u32,
+        seed: u64,
+    ) -> Result<Option<Runner>, AllocError> {
         let Some(process) = system.processes.as_slice().first() else {
-            return Err("there is no process".into());
+            return Ok(None);
         };
         let code = compile(alloc, process)?;
         if !is_without_evolution(&code) {
-            return Err("an evolution has no steps yet".into());
+            return Ok(None);
         }
         codes();
         let variables = process.variables.len() as u32;
         let local = Local::start(alloc, &code, number, variables)?;
-        Ok(Runner { code, local })
+        Ok(Some(Runner {
+            code,
+            local,
+            clock: Frac::zero(),
+            seed,
+        }))
     }
 
-    pub(crate) fn local(&self) -> &Local {
-        &self.local
-    }
-
-    /// A copy of the local, made over one that has begun anew.
-    pub(crate) fn copied(&self, alloc: Global) -> Result<Local, Fail> {
-        let variables = self.local.store().len();
-        if variables > 64 {
-            return Err("there are too many variables".into());
-        }
-        let mut copy = Local::start(alloc, &self.code, 0, variables as u32)?;
-        self.local.copy_into(&mut copy);
-        Ok(copy)
-    }
-
-    pub(crate) fn stretch(&mut self, clock: Frac, seed: u64, most: u32) -> Stretch {
-        self.local.stretch(&self.code, clock, seed, most)
-    }
-
-    pub(crate) fn sent(&mut self, channel: u32) {
-        self.local.sent(&self.code, channel);
-    }
-
-    pub(crate) fn received(&mut self, channel: u32, value: Frac) {
-        self.local.received(&self.code, channel, value);
-    }
-
-    /// Lets time pass, where it may; it is from 0 to the bound.
-    pub(crate) fn pass(&mut self, by: Frac) -> bool {
+    /// Lets so many time units pass, where it may: from 0 to the bound, and all fits.
+    fn pass(&mut self, by: Frac) -> bool {
         let is_within = is_at_most(Frac::zero(), by) && is_to_bound(by, self.local.post().bound);
         if !is_within || !self.local.can_move(by) {
             return false;
         }
+        let Some(clock) = self.clock.add(by) else {
+            return false;
+        };
         self.local.move_by(by);
+        self.clock = clock;
         true
+    }
+
+    /// Does this with the process, and tells what came of it.
+    pub(crate) fn put_act(&mut self, text: &mut String, act: Act) -> Result<(), AllocError> {
+        match act {
+            Act::Stretch(most) => {
+                let stretch = self.local.stretch(&self.code, self.clock, self.seed, most);
+                put_stretch(text, &stretch)
+            }
+            Act::Pass(by) => {
+                let passed = self.pass(by);
+                put_item(text, if passed { "passed" } else { "stays" })
+            }
+            Act::Send(channel) => {
+                self.local.sent(&self.code, channel);
+                put_item(text, "sent")
+            }
+            Act::Receive(channel, value) => {
+                self.local.received(&self.code, channel, value);
+                put_item(text, "received")
+            }
+        }
+    }
+
+    /// What the process shows to the others, and whether it has a silent step.
+    pub(crate) fn put_end(&self, text: &mut String) -> Result<(), AllocError> {
+        if self.local.able() {
+            put_item(text, "able")?;
+        }
+        put_post(text, self.local.post())
     }
 }

@@ -1,0 +1,130 @@
+//! The end moment of the domain of an evolution.
+
+ghost use Rattle.std.specs.Prelude.{◌≡◌, ◌≤◌, IsTrue};
+ghost use Rattle.hc_term.specs.Profile.{is_conjunction, reach, reach_in};
+
+use hc_cross::{affine, end_moment};
+use hc_frac::Frac;
+use hc_term::{Cond, Expr, Rate, Stmt, System, form_of, is_affine};
+use std::alloc::{AllocError, Global};
+
+/// The most variables of one process.
+const MOST_VARIABLES: usize = 64;
+
+/// Whether the variables of an expression are below so many.
+fn is_within(expr: &Expr, variables: usize) -> bool
+    ensures { IsTrue result → reach expr.now ≤ variables }
+{
+    match expr {
+        Expr::Number(_) => true,
+        Expr::Variable(variable) => (*variable as usize) < variables,
+        Expr::Neg(part) => is_within(part.get(), variables),
+        Expr::Binary(_, left, right) => {
+            is_within(left.get(), variables) && is_within(right.get(), variables)
+        }
+    }
+}
+
+/// Whether those of a condition are.
+fn is_test_within(cond: &Cond, variables: usize) -> bool
+    ensures { IsTrue result → reach_in cond.now ≤ variables }
+{
+    match cond {
+        Cond::True | Cond::False => true,
+        Cond::Compare(_, left, right) => {
+            is_within(left.get(), variables) && is_within(right.get(), variables)
+        }
+        Cond::Not(part) => is_test_within(part.get(), variables),
+        Cond::And(left, right) | Cond::Or(left, right) => {
+            is_test_within(left.get(), variables) && is_test_within(right.get(), variables)
+        }
+    }
+}
+
+/// Whether a condition has no `||` and no `!`.
+fn is_narrow(cond: &Cond) -> bool
+    ensures { result ≡ is_conjunction cond.now }
+{
+    match cond {
+        Cond::True | Cond::False | Cond::Compare(..) => true,
+        Cond::And(left, right) => is_narrow(left.get()) && is_narrow(right.get()),
+        Cond::Not(_) | Cond::Or(..) => false,
+    }
+}
+
+/// The value of an expression, where it fits.
+fn value_of(expr: &Expr, store: &[Frac]) -> Option<Frac> {
+    let still = [None; MOST_VARIABLES];
+    let is_known = store.len() == MOST_VARIABLES && is_within(expr, MOST_VARIABLES);
+    if !is_known || !form_of(&still, expr).affine {
+        return None;
+    }
+    match affine(expr, store, &still) {
+        Ok(line) => Some(line.at),
+        Err(_) => None,
+    }
+}
+
+/// Sets a variable to the value of the expression, where it fits.
+fn set(store: &mut [Frac], variable: u32, expr: &Expr) {
+    let Some(value) = value_of(expr, store) else {
+        return;
+    };
+    if let Some(cell) = store.get_mut(variable as usize) {
+        *cell = value;
+    }
+}
+
+/// The rates of an evolution that begins in this store, where they fit.
+fn rates_of(rates: &[Rate], store: &[Frac]) -> Option<[Option<Frac>; MOST_VARIABLES]> {
+    let mut found = [None; MOST_VARIABLES];
+    for rate in rates {
+        let value = value_of(&rate.value, store)?;
+        if let Some(cell) = found.get_mut(rate.variable as usize) {
+            *cell = Some(value);
+        }
+    }
+    Some(found)
+}
+
+/// The end moment of a domain in this store with these rates, as a text.
+fn end_text(
+    alloc: Global,
+    domain: &Cond,
+    store: &[Frac],
+    rates: &[Option<Frac>],
+) -> Result<String, AllocError> {
+    let is_known = store.len() == rates.len() && is_test_within(domain, store.len());
+    if !is_known || !is_affine(rates, domain) {
+        return String::from_str(alloc, "unknown");
+    }
+    if !is_narrow(domain) {
+        return String::from_str(alloc, "wide");
+    }
+    match end_moment(domain, store, rates) {
+        Ok(Some(moment)) => String::from_str(alloc, moment.text().as_str()),
+        Ok(None) => String::from_str(alloc, "none"),
+        Err(_) => String::from_str(alloc, "unfit"),
+    }
+}
+
+/// The end moment of the first evolution of the first process, which assignments may precede.
+pub(crate) fn end_of(alloc: Global, system: &System) -> Result<String, AllocError> {
+    let mut store = [Frac::zero(); MOST_VARIABLES];
+    let Some(process) = system.processes.as_slice().first() else {
+        return String::from_str(alloc, "unknown");
+    };
+    for stmt in process.body.as_slice() {
+        match stmt {
+            Stmt::Assign { variable, value } => set(&mut store, *variable, value),
+            Stmt::Evolve { rates, domain, .. } => {
+                return match rates_of(rates.as_slice(), &store) {
+                    Some(rates) => end_text(alloc, domain, &store, &rates),
+                    None => String::from_str(alloc, "unfit"),
+                };
+            }
+            _ => {}
+        }
+    }
+    String::from_str(alloc, "unknown")
+}
