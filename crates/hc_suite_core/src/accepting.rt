@@ -2,17 +2,15 @@
 
 use hc_ast::Tree;
 use hc_check::{CheckStop, check};
+use hc_limits::MOST_SOURCE_BYTES;
 use hc_modules::{Flat, ModuleStop, expand};
 use hc_parse::{ParseStop, parse};
 use hc_term::System;
 use std::alloc::{AllocError, Global};
 
-/// The most bytes of a source.
-const LONGEST_SOURCE: usize = 1_048_576;
-
 /// The system of a text, or `None` where the text is refused.
 pub(crate) fn system_of(alloc: Global, bytes: &[u8]) -> Result<Option<System>, AllocError> {
-    if bytes.len() > LONGEST_SOURCE {
+    if bytes.len() > MOST_SOURCE_BYTES {
         return Ok(None);
     }
     let tree = match parse(alloc, bytes) {

@@ -1,15 +1,13 @@
 //! The end moment of the domain of an evolution.
 
-ghost use Rattle.std.specs.Prelude.{◌≡◌, ◌≤◌, IsTrue};
-ghost use Rattle.hc_term.specs.Profile.{is_conjunction, reach, reach_in};
+ghost use Rattle.std.specs.Prelude.{◌≤◌, IsTrue};
+ghost use Rattle.hc_term.specs.Profile.{reach, reach_in};
 
 use hc_cross::{affine, end_moment};
 use hc_frac::Frac;
+use hc_limits::MOST_VARIABLES;
 use hc_term::{Cond, Expr, Rate, Stmt, System, form_of, is_affine};
 use std::alloc::{AllocError, Global};
-
-/// The most variables of one process.
-const MOST_VARIABLES: usize = 64;
 
 /// Whether the variables of an expression are below so many.
 fn is_within(expr: &Expr, variables: usize) -> bool
@@ -38,17 +36,6 @@ fn is_test_within(cond: &Cond, variables: usize) -> bool
         Cond::And(left, right) | Cond::Or(left, right) => {
             is_test_within(left.get(), variables) && is_test_within(right.get(), variables)
         }
-    }
-}
-
-/// Whether a condition has no `||` and no `!`.
-fn is_narrow(cond: &Cond) -> bool
-    ensures { result ≡ is_conjunction cond.now }
-{
-    match cond {
-        Cond::True | Cond::False | Cond::Compare(..) => true,
-        Cond::And(left, right) => is_narrow(left.get()) && is_narrow(right.get()),
-        Cond::Not(_) | Cond::Or(..) => false,
     }
 }
 
@@ -97,9 +84,6 @@ fn end_text(
     let is_known = store.len() == rates.len() && is_test_within(domain, store.len());
     if !is_known || !is_affine(rates, domain) {
         return String::from_str(alloc, "unknown");
-    }
-    if !is_narrow(domain) {
-        return String::from_str(alloc, "wide");
     }
     match end_moment(domain, store, rates) {
         Ok(Some(moment)) => String::from_str(alloc, moment.text().as_str()),
