@@ -1,2 +1,5 @@
-pub mod Replying
+pub mod StandsLemmas
+pub mod Finding
 pub mod Statuses
+pub mod Calling
+pub mod OneReply

@@ -1,176 +1,103 @@
--- The statuses of replies: 2 tells of the words alone, and no reply has 4.
-use Rattle.std.proofs.Common.{arith, ◌≡◌, ◌≢◌, ℕ, List, Option, ◌⊎◌, inl, inr, refl, sym, ap, ◌∙◌}
-use Rattle.hc_world.specs.Written.{Written}
-use Rattle.hc_term.specs.declared.run.Stop.{Stop}
-use Rattle.hc_term.specs.declared.run.Stop.TheVariants.{Terminated, Deadlock, Horizon, Limit, Overflow}
-use Rattle.hc_term.specs.declared.system.System.{System}
-use Rattle.hc_term.specs.Canonical.{canonical}
+-- The statuses of answers: those of what is done, and those of refusals, which leave nothing on output.
+use Rattle.std.proofs.Common.{◌≡◌, ◌≢◌, ◌==◌, ℕ, Bool, true, false, List, [], ◌∷◌, ◌⊎◌, inl, inr, IsTrue, refl, sym, ap, subst, ◌∙◌}
+use Rattle.std.specs.List.{list_any}
 use Rattle.hc_ast.specs.declared.tree.Tree.{Tree}
-use Rattle.hc_parse.specs.declared.parsing.ParseStop.{ParseStop}
-use Rattle.hc_parse.specs.declared.parsing.ParseStop.TheVariants as stop
+use Rattle.hc_modules.specs.declared.flat.Flat.{Flat}
 use Rattle.hc_modules.specs.declared.flat.ModuleStop.{ModuleStop}
 use Rattle.hc_modules.specs.declared.flat.ModuleStop.TheVariants as expanding
 use Rattle.hc_finds.specs.declared.stop.CheckStop.{CheckStop}
 use Rattle.hc_finds.specs.declared.stop.CheckStop.TheVariants as check
+use Rattle.hc_term.specs.declared.run.Stop.{Stop}
+use Rattle.hc_term.specs.declared.run.Stop.TheVariants.{Terminated, Deadlock, Horizon, Limit, Overflow}
+use Rattle.hc_term.specs.declared.system.System.{System}
+use Rattle.hc_term.specs.Canonical.{canonical}
 use Rattle.hc_words.specs.declared.requests.Request.{Request}
-use Rattle.hc_words.specs.declared.requests.Settings.{Settings}
-use Rattle.hc_reply.specs.Reply.{Reply}
-use Rattle.hc_reply.specs.Sinks.{Stands, whole, out_failed, err_failed}
-use Rattle.hc_cmd.specs.declared.refusal.Refusal.{Refusal}
-use Rattle.hc_cmd.specs.declared.refusal.Refusal.TheVariants.{Usage, Unread, Memory, TooLong, NotBuilt, Unparsed, Unexpanded, Unchecked}
-use Rattle.hc_cmd.specs.declared.prepared.Prepared.{Prepared}
-use Rattle.hc_cmd.specs.declared.prepared.Prepared.TheVariants as is
-use Rattle.hc_cmd.specs.Prepared.{reply_to}
-use Rattle.hc_cmd.specs.Refusals.{status_of, status_of_stop, status_of_module_stop, status_of_check_stop}
-use Rattle.hc_cmd.specs.Replies.{Rejects, unexpanded, unchecked, Simulates, plain, not_plain, Answers, size, simulation, spelling, unparsed, rejected, status_at, AsksNothing, Replies, usage, unread, no_memory, too_long, answered}
+use Rattle.hc_words.specs.declared.requests.Request.TheVariants.{Check, Print, Simulate}
+use Rattle.hc_words.specs.declared.settings.Settings.{Settings}
+use Rattle.hc_cmd.specs.Reply.{Reply}
+use Rattle.hc_cmd.specs.Refusals.{status_of_module_stop, status_of_check_stop}
+use Rattle.hc_cmd.specs.Answers.{OfText, no_source, source, OfTree, unexpanded, unchecked, accepted, Simulates, plain, not_plain, Answers, status_at}
 
--- neither what is done nor a refusal of a source has this status
-record IsOther (k : ℕ) : Type 0 where
-  done : 0 ≢ k
-  refusal : 1 ≢ k
-  fault : 3 ≢ k
-  memory : 5 ≢ k
-  deadlock : 10 ≢ k
-  overflow : 11 ≢ k
-  limit : 12 ≢ k
+-- what is done ends with one of these
+abbrev pub is_done : ℕ → Bool
+is_done status = list_any (λ k. k == status) (0 ∷ 10 ∷ 11 ∷ 12 ∷ [])
 
-two : IsOther 2
-two = record {
-  done = λ e. absurd (omega (arith, e));
-  refusal = λ e. absurd (omega (arith, e));
-  fault = λ e. absurd (omega (arith, e));
-  memory = λ e. absurd (omega (arith, e));
-  deadlock = λ e. absurd (omega (arith, e));
-  overflow = λ e. absurd (omega (arith, e));
-  limit = λ e. absurd (omega (arith, e));
-}
+-- a text is refused with one of these, or memory runs out
+abbrev pub is_refusal : ℕ → Bool
+is_refusal status = list_any (λ k. k == status) (1 ∷ 5 ∷ [])
 
-four : IsOther 4
-four = record {
-  done = λ e. absurd (omega (arith, e));
-  refusal = λ e. absurd (omega (arith, e));
-  fault = λ e. absurd (omega (arith, e));
-  memory = λ e. absurd (omega (arith, e));
-  deadlock = λ e. absurd (omega (arith, e));
-  overflow = λ e. absurd (omega (arith, e));
-  limit = λ e. absurd (omega (arith, e));
-}
+-- the answer does what was asked for, or refuses the text and leaves nothing on output
+pub data IsAnswer (reply : Reply) : Type 0 where
+  does : IsTrue (is_done reply.status) → IsAnswer reply
+  refuses : IsTrue (is_refusal reply.status) → reply.out ≡ [] → IsAnswer reply
 
-module _ (k : ℕ) (other : IsOther k) where
-  at_other : (stop : Stop) → status_at stop ≢ k
-  at_other Terminated e = other.done e
-  at_other Deadlock e = other.deadlock e
-  at_other Horizon e = other.done e
-  at_other Limit e = other.limit e
-  at_other (Overflow p) e = other.overflow e
+-- no answer has another status
+pub not_other : (reply : Reply) (k : ℕ) → is_done k ≡ false → is_refusal k ≡ false → IsAnswer reply → reply.status ≢ k
+not_other reply k not_done not_refusal (does is) e = cc (sym is ∙ ap is_done e ∙ not_done)
+not_other reply k not_done not_refusal (refuses is none) e = cc (sym is ∙ ap is_refusal e ∙ not_refusal)
 
-  unparsed_other : (s : ParseStop) → status_of_stop s ≢ k
-  unparsed_other (stop.NameTooLong p) e = other.refusal e
-  unparsed_other (stop.NumberUnfit p) e = other.refusal e
-  unparsed_other (stop.Syntax p) e = other.refusal e
-  unparsed_other (stop.TooDeep p) e = other.refusal e
-  unparsed_other (stop.TooManyNodes p) e = other.refusal e
-  unparsed_other stop.Memory e = other.memory e
+-- a refusal leaves nothing on output
+pub nothing_out : (reply : Reply) (k : ℕ) → is_done k ≡ false → IsAnswer reply → reply.status ≡ k → reply.out ≡ []
+nothing_out reply k not_done (does is) e = absurd (cc (sym is ∙ ap is_done e ∙ not_done))
+nothing_out reply k not_done (refuses is none) e = none
 
-  unexpanded_other : (s : ModuleStop) → status_of_module_stop s ≢ k
-  unexpanded_other (expanding.RepeatedModule p) e = other.refusal e
-  unexpanded_other (expanding.RepeatedParameter p) e = other.refusal e
-  unexpanded_other (expanding.ParameterWritten p) e = other.refusal e
-  unexpanded_other (expanding.TooManyProcesses p) e = other.refusal e
-  unexpanded_other (expanding.RepeatedProcess p) e = other.refusal e
-  unexpanded_other (expanding.UnknownModule p) e = other.refusal e
-  unexpanded_other (expanding.WrongArgumentCount p) e = other.refusal e
-  unexpanded_other (expanding.WrongArgumentKind p) e = other.refusal e
-  unexpanded_other (expanding.TooManyStatements p) e = other.refusal e
-  unexpanded_other (expanding.TooManyNodes p) e = other.refusal e
-  unexpanded_other expanding.Memory e = other.memory e
+-- ---- refusals
 
-  unchecked_other : (s : CheckStop) → status_of_check_stop s ≢ k
-  unchecked_other (check.TooMany what p) e = other.refusal e
-  unchecked_other (check.DivisorNotLiteral p) e = other.refusal e
-  unchecked_other (check.ZeroDivisor p) e = other.refusal e
-  unchecked_other (check.RepeatedRate p) e = other.refusal e
-  unchecked_other (check.RateEvolves p) e = other.refusal e
-  unchecked_other (check.NotAffine p) e = other.refusal e
-  unchecked_other (check.RepeatedGuard p) e = other.refusal e
-  unchecked_other (check.SelfChannel p) e = other.refusal e
-  unchecked_other (check.TwoSenders p) e = other.refusal e
-  unchecked_other (check.TwoReceivers p) e = other.refusal e
-  unchecked_other check.Memory e = other.memory e
+unexpanded_status : (s : ModuleStop) → IsTrue (is_refusal (status_of_module_stop s))
+unexpanded_status (expanding.RepeatedModule p) = refl
+unexpanded_status (expanding.RepeatedParameter p) = refl
+unexpanded_status (expanding.ParameterWritten p) = refl
+unexpanded_status (expanding.TooManyProcesses p) = refl
+unexpanded_status (expanding.RepeatedProcess p) = refl
+unexpanded_status (expanding.UnknownModule p) = refl
+unexpanded_status (expanding.WrongArgumentCount p) = refl
+unexpanded_status (expanding.WrongArgumentKind p) = refl
+unexpanded_status (expanding.TooManyStatements p) = refl
+unexpanded_status (expanding.TooManyNodes p) = refl
+unexpanded_status expanding.Memory = refl
 
-  status_is : (reply same : Reply) → reply ≡ same → reply.status ≡ k → same.status ≡ k
-  status_is reply same e h = sym (ap (λ (r : Reply). r.status) e) ∙ h
+unchecked_status : (s : CheckStop) → IsTrue (is_refusal (status_of_check_stop s))
+unchecked_status (check.TooMany what p) = refl
+unchecked_status (check.DivisorNotLiteral p) = refl
+unchecked_status (check.ZeroDivisor p) = refl
+unchecked_status (check.RepeatedRate p) = refl
+unchecked_status (check.RateEvolves p) = refl
+unchecked_status (check.NotAffine p) = refl
+unchecked_status (check.RepeatedGuard p) = refl
+unchecked_status (check.SelfChannel p) = refl
+unchecked_status (check.TwoSenders p) = refl
+unchecked_status (check.TwoReceivers p) = refl
+unchecked_status check.Memory = refl
 
-  simulates_other : (settings : Settings) (system : System) (reply : Reply) → Simulates settings system reply → reply.status ≢ k
-  simulates_other settings system reply (plain task is parts e) h = at_other (canonical task).stop (status_is reply _ e h)
-  simulates_other settings system reply (not_plain is e) h = other.refusal (status_is reply _ e h)
+-- ---- answers
 
-  rejects_other : (tree : Tree) (reply : Reply) → Rejects tree reply → reply.status ≢ k
-  rejects_other tree reply (unexpanded s is e) h = unexpanded_other s (status_is reply _ e h)
-  rejects_other tree reply (unchecked flat from s is e) h = unchecked_other s (status_is reply _ e h)
+pub status_is_done : (s : Stop) → IsTrue (is_done (status_at s))
+status_is_done Terminated = refl
+status_is_done Deadlock = refl
+status_is_done Horizon = refl
+status_is_done Limit = refl
+status_is_done (Overflow p) = refl
 
-  answer_other : (request : Request) (text : List ℕ) (reply : Reply) → Answers request text reply → reply.status ≢ k
-  answer_other request text reply (size asked system accepted e) h = other.done (status_is reply _ e h)
-  answer_other request text reply (simulation settings asked system accepted s) h = simulates_other settings system reply s h
-  answer_other request text reply (spelling asked tree is e) h = other.done (status_is reply _ e h)
-  answer_other request text reply (unparsed flaw place is e) h = other.refusal (status_is reply _ e h)
-  answer_other request text reply (rejected asked tree is r) h = rejects_other tree reply r h
+same_answer : (reply same : Reply) → reply ≡ same → IsAnswer same → IsAnswer reply
+same_answer reply same e is = subst IsAnswer (sym e) is
 
--- status 2 tells of the words alone
-pub usage_alone : (f : Refusal) → status_of f ≡ 2 → f ≡ Usage
-usage_alone Usage e = refl
-usage_alone Unread e = absurd (two.fault e)
-usage_alone Memory e = absurd (two.memory e)
-usage_alone TooLong e = absurd (two.refusal e)
-usage_alone NotBuilt e = absurd (two.refusal e)
-usage_alone (Unparsed s) e = absurd (unparsed_other 2 two s e)
-usage_alone (Unexpanded s) e = absurd (unexpanded_other 2 two s e)
-usage_alone (Unchecked s) e = absurd (unchecked_other 2 two s e)
+text_answers : (G : Tree → Reply → Type 0) (text : List ℕ) (reply : Reply) → ((tree : Tree) → G tree reply → IsAnswer reply) →
+    OfText G text reply → IsAnswer reply
+text_answers G text reply given (no_source flaw place is e) = same_answer reply _ e (refuses refl refl)
+text_answers G text reply given (source tree is g) = given tree g
 
--- what is ready has another
-pub ready_not_2 : (p : Prepared) → (reply_to p).status ≢ 2
-ready_not_2 (is.Simulation s) e = at_other 2 two (canonical s.task).stop e
-ready_not_2 (is.Size line) e = two.done e
-ready_not_2 (is.Spelling bytes) e = two.done e
+tree_answers : (G : Flat → System → Reply → Type 0) (tree : Tree) (reply : Reply) → ((flat : Flat) (system : System) → G flat system reply → IsAnswer reply) →
+    OfTree G tree reply → IsAnswer reply
+tree_answers G tree reply given (unexpanded s is e) = same_answer reply _ e (refuses (unexpanded_status s) refl)
+tree_answers G tree reply given (unchecked flat s from is e) = same_answer reply _ e (refuses (unchecked_status s) refl)
+tree_answers G tree reply given (accepted flat system from is g) = given flat system g
 
-module _ {S : Type 0} (left : S → Option (List ℕ)) (faults : S → ℕ) (words : List (List ℕ)) (before after : S) where
-  pub reply_not_4 : (reply : Reply) → Replies left faults words before after reply → reply.status ≢ 4
-  reply_not_4 reply (usage none same e) h = let bad : 2 ≡ 4 = status_is 4 four reply _ e h in absurd (omega (arith, bad))
-  reply_not_4 reply (unread request asked rose e) h = four.fault (status_is 4 four reply _ e h)
-  reply_not_4 reply (no_memory kept e) h = four.memory (status_is 4 four reply _ e h)
-  reply_not_4 reply (too_long request text asked all long kept e) h = four.refusal (status_is 4 four reply _ e h)
-  reply_not_4 reply (answered request text asked all fits kept a) h = answer_other 4 four request text reply a h
+simulation_answers : (settings : Settings) (system : System) (reply : Reply) → Simulates settings system reply → IsAnswer reply
+simulation_answers settings system reply (plain task is parts e) = same_answer reply _ e (does (status_is_done (canonical task).stop))
+simulation_answers settings system reply (not_plain is e) = same_answer reply _ e (refuses refl refl)
 
-  -- a reply of status 2 says that the words ask for nothing, and that nothing was read
-  two_tells : (reply : Reply) → Replies left faults words before after reply → reply.status ≡ 2 → AsksNothing words × (after ≡ before)
-  two_tells reply (usage none same e) h = (none, same)
-  two_tells reply (unread request asked rose e) h = absurd (two.fault (status_is 2 two reply _ e h))
-  two_tells reply (no_memory kept e) h = absurd (two.memory (status_is 2 two reply _ e h))
-  two_tells reply (too_long request text asked all long kept e) h = absurd (two.refusal (status_is 2 two reply _ e h))
-  two_tells reply (answered request text asked all fits kept a) h = absurd (answer_other 2 two request text reply a h)
-
-  -- where the words ask for nothing there is no reply but that, or want of memory
-  nothing_gives : (reply : Reply) → Replies left faults words before after reply → AsksNothing words → (reply.status ≡ 2) ⊎ (reply.status ≡ 5)
-  nothing_gives reply (usage none same e) nothing = inl (ap (λ (r : Reply). r.status) e)
-  nothing_gives reply (unread request asked rose e) nothing = absurd (nothing request asked)
-  nothing_gives reply (no_memory kept e) nothing = inr (ap (λ (r : Reply). r.status) e)
-  nothing_gives reply (too_long request text asked all long kept e) nothing = absurd (nothing request asked)
-  nothing_gives reply (answered request text asked all fits kept a) nothing = absurd (nothing request asked)
-
-module _ {S O E : Type 0} (left : S → Option (List ℕ)) (faults : S → ℕ) (out_told : O → Option Written) (out_faults : O → ℕ)
-    (err_told : E → Option Written) (err_faults : E → ℕ) (words : List (List ℕ)) (source source' : S) (out out' : O) (err err' : E) (status : ℕ) where
-  pub usage_told : (reply : Reply) → Replies left faults words source source' reply →
-      Stands out_told out_faults err_told err_faults out out' err err' reply status → status ≡ 2 → AsksNothing words × (source' ≡ source)
-  usage_told reply replies (whole e o r) h = two_tells left faults words source source' reply replies (sym e ∙ h)
-  usage_told reply replies (out_failed e o r) h = let bad : 4 ≡ 2 = sym e ∙ h in absurd (omega (arith, bad))
-  usage_told reply replies (err_failed e o r) h = let bad : 4 ≡ 2 = sym e ∙ h in absurd (omega (arith, bad))
-
-  of_nothing : (reply : Reply) → status ≡ reply.status → (reply.status ≡ 2) ⊎ (reply.status ≡ 5) → (status ≡ 2) ⊎ (status ≡ 4) ⊎ (status ≡ 5)
-  of_nothing reply e (inl h) = inl (e ∙ h)
-  of_nothing reply e (inr h) = inr (inr (e ∙ h))
-
-  pub nothing_told : (reply : Reply) → Replies left faults words source source' reply →
-      Stands out_told out_faults err_told err_faults out out' err err' reply status → AsksNothing words → (status ≡ 2) ⊎ (status ≡ 4) ⊎ (status ≡ 5)
-  nothing_told reply replies (whole e o r) nothing = of_nothing reply e (nothing_gives left faults words source source' reply replies nothing)
-  nothing_told reply replies (out_failed e o r) nothing = inr (inl e)
-  nothing_told reply replies (err_failed e o r) nothing = inr (inl e)
+pub is_answer : (request : Request) (text : List ℕ) (reply : Reply) → Answers request text reply → IsAnswer reply
+is_answer Check text reply a = text_answers _ text reply (λ tree. tree_answers _ tree reply (λ flat system e. same_answer reply _ e (does refl))) a
+is_answer Print text reply a = text_answers _ text reply (λ tree e. same_answer reply _ e (does refl)) a
+is_answer (Simulate settings) text reply a =
+    text_answers _ text reply (λ tree. tree_answers _ tree reply (λ flat system s. simulation_answers settings system reply s)) a

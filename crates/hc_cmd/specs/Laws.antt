@@ -1,8 +1,53 @@
 -- What holds of all texts.
-use Rattle.std.specs.Prelude.{◌≡◌, ℕ, List}
-use Rattle.hc_term.specs.declared.system.System.{System}
+use Rattle.std.specs.Prelude.{◌≡◌, ℕ, List, [], IsTrue}
 use Rattle.hc_check.specs.Accepted.{IsAccepted}
+use Rattle.hc_term.specs.declared.run.Item.{Item}
+use Rattle.hc_term.specs.declared.run.Stop.{Stop}
+use Rattle.hc_term.specs.declared.model.Configuration.{Configuration}
+use Rattle.hc_term.specs.declared.system.System.{System}
+use Rattle.hc_term.specs.declared.task.Task.{Task}
+use Rattle.hc_term.specs.Given.{HasParts}
+use Rattle.hc_plain.specs.Plain.{is_plain_system}
+use Rattle.hc_term.specs.Stop.{IsBehaviour}
+use Rattle.hc_term.specs.TraceText.{whole}
+use Rattle.hc_words.specs.declared.requests.Request.{Request}
+use Rattle.hc_words.specs.declared.requests.Request.TheVariants.{Check, Simulate}
+use Rattle.hc_words.specs.declared.settings.Settings.{Settings}
+use Rattle.hc_cmd.specs.Reply.{Reply}
+use Rattle.hc_cmd.specs.Answers.{Answers, done, size_of, status_at}
 
 -- a text has at most one system
 abbrev pub OneAcceptedSystem : Type 0
 OneAcceptedSystem = (text : List ℕ) (s t : System) → IsAccepted text s → IsAccepted text t → s ≡ t
+
+-- the request and the bytes of the text decide the reply; so no two rows of the table of statuses overlap
+abbrev pub OneAnswer : Type 0
+OneAnswer = (request : Request) (text : List ℕ) (r s : Reply) → Answers request text r → Answers request text s → r ≡ s
+
+-- of an accepted text the size is told
+abbrev pub AcceptedIsSized : Type 0
+AcceptedIsSized =
+    (text : List ℕ) (system : System) (reply : Reply) (accepted : IsAccepted text system) → Answers Check text reply →
+    reply ≡ done (size_of accepted.flat system)
+
+-- on output stands the whole text of a behaviour of the task, and the status is that of its stop
+pub record TellsBehaviour (task : Task) (reply : Reply) : Type 0 where
+  pub items : List Item
+  pub end : Configuration
+  pub stop : Stop
+  pub behaviour : IsBehaviour task items end stop
+  pub out : reply.out ≡ whole task.system items end.clock stop
+  pub err : reply.err ≡ []
+  pub status : reply.status ≡ status_at stop
+
+-- systems that are simulated so far
+abbrev pub IsSimulable : System → Type 0
+IsSimulable system = IsTrue (is_plain_system system)
+
+-- The headline: what `simulate` writes of an accepted text is the whole text of a behaviour of its system, with the seed,
+-- the horizon and the limit of the words, and the status is that of the behaviour's stop.
+abbrev pub SimulationIsBehaviour : Type 0
+SimulationIsBehaviour =
+    (settings : Settings) (text : List ℕ) (system : System) (reply : Reply) → IsAccepted text system → IsSimulable system →
+    Answers (Simulate settings) text reply →
+    (task : Task) × HasParts system settings.seed settings.horizon settings.limit task × TellsBehaviour task reply

@@ -1,5 +1,6 @@
+pub mod Reply
 pub mod Refusals
-pub mod Replies
-pub mod Complete
+pub mod Calls
+pub mod Answers
 pub mod Prepared
 pub mod Laws

@@ -1,42 +1,75 @@
--- What is ready to be written.
-use Rattle.std.specs.Prelude.{[]}
-use Rattle.hc_reply.specs.Reply.{Reply}
-use Rattle.hc_plain.specs.Runs.{IsCanonical}
-use Rattle.hc_cmd.specs.declared.simulation.Simulation.{Simulation}
-use Rattle.hc_cmd.specs.declared.prepared.Prepared.{Prepared}
-use Rattle.hc_cmd.specs.declared.prepared.Prepared.TheVariants as is
+-- What is ready to be written, and how its writing ends.
+use Rattle.std.specs.Prelude.{◌≡◌, ◌⊎◌, ℕ, List, Result, Ok, Err, MatchResult}
 use Rattle.hc_ast.specs.declared.tree.Tree.{Tree}
+use Rattle.hc_ast.specs.Source.{IsSource}
 use Rattle.hc_modules.specs.declared.flat.Flat.{Flat}
 use Rattle.hc_modules.specs.Refusals.{IsExpansion}
 use Rattle.hc_check.specs.Checked.{IsChecked}
 use Rattle.hc_term.specs.declared.system.System.{System}
-use Rattle.hc_words.specs.declared.requests.Settings.{Settings}
-use Rattle.hc_cmd.specs.Replies.{simulated, Simulates}
+use Rattle.hc_plain.specs.Runs.{IsCanonical}
+use Rattle.hc_world.specs.States.{SinkState}
+use Rattle.hc_world.specs.Sinks.{IsWhole, IsCut}
+use Rattle.hc_cmd.specs.declared.ending.End.{End}
+use Rattle.hc_cmd.specs.declared.ending.Halt.{Halt}
+use Rattle.hc_cmd.specs.declared.ending.Halt.TheVariants as halt
+use Rattle.hc_cmd.specs.declared.refusal.Refusal.{Refusal}
+use Rattle.hc_cmd.specs.declared.refusal.Refusal.TheVariants.{Memory}
+use Rattle.hc_cmd.specs.declared.simulation.Simulation.{Simulation}
+use Rattle.hc_cmd.specs.declared.prepared.Prepared.{Prepared}
+use Rattle.hc_cmd.specs.declared.prepared.Prepared.TheVariants as is
+use Rattle.hc_cmd.specs.Reply.{Reply}
+use Rattle.hc_cmd.specs.Refusals.{refused}
+use Rattle.hc_cmd.specs.Answers.{OfText, OfSource, done, simulated}
 
 -- what a simulation lets stand
 abbrev pub simulation_reply : Simulation → Reply
 simulation_reply s = simulated s.task
 
 -- its run is the canonical run of its task
-abbrev pub IsSimulated : Simulation → Type 0
-IsSimulated s = IsCanonical s.task s.run
+abbrev pub IsRun : Simulation → Type 0
+IsRun s = IsCanonical s.task s.run
 
--- what it lets stand
+-- what is ready lets this stand
 abbrev pub reply_to : Prepared → Reply
 reply_to (is.Simulation s) = simulation_reply s
-reply_to (is.Size line) = record { status = 0; out = line.bytes; err = [] }
-reply_to (is.Spelling bytes) = record { status = 0; out = bytes.items; err = [] }
+reply_to (is.Size line) = done line.bytes
+reply_to (is.Spelling bytes) = done bytes.items
 
 abbrev pub IsReady : Prepared → Type 0
-IsReady (is.Simulation s) = IsSimulated s
+IsReady (is.Simulation s) = IsRun s
 IsReady (is.Size line) = Unit {0}
 IsReady (is.Spelling bytes) = Unit {0}
 
--- these are the processes and the system of an accepted source
-pub record Accepts (tree : Tree) (flat : Flat) (system : System) : Type 0 where
+-- ---- what a text has
+
+-- these are the processes and the system of an accepted text
+pub record Accepts (text : List ℕ) (flat : Flat) (system : System) : Type 0 where
+  pub tree : Tree
+  pub source : IsSource text tree
   pub expanded : IsExpansion tree flat
   pub checked : IsChecked flat system
 
--- a tree is accepted, and its system simulated so
-abbrev pub SimulatesTree : Tree → Settings → Reply → Type 0
-SimulatesTree tree settings reply = (flat : Flat) × (system : System) × Accepts tree flat system × Simulates settings system reply
+-- the tree of a text, or want of memory, or what is answered to a text without a tree
+abbrev pub FindsTree : List ℕ → Result Tree Refusal → Type 0
+FindsTree text result =
+    MatchResult result (IsSource text) (λ r. (refused r ≡ refused Memory) ⊎ OfText (λ _ _. ⊥) text (refused r))
+
+-- the processes and the system of a text, or want of memory, or what is answered to a text that isn't accepted
+abbrev pub FindsSystem : List ℕ → Result (Flat × System) Refusal → Type 0
+FindsSystem text result =
+    MatchResult result (λ p. Accepts text p.0 p.1) (λ r. (refused r ≡ refused Memory) ⊎ OfSource (λ _ _ _. ⊥) text (refused r))
+
+-- what is ready lets such a reply stand; or want of memory, or a refusal that is such a reply
+abbrev pub Prepares : (Reply → Type 0) → Result Prepared Refusal → Type 0
+Prepares Gives result =
+    MatchResult result (λ p. IsReady p × Gives (reply_to p)) (λ r. (refused r ≡ refused Memory) ⊎ Gives (refused r))
+
+-- ---- how the writing ends
+
+-- at the end its text stands whole, and the status and the line on error are known; at a fault a first part of it stands;
+-- where memory is wanted, nothing was written
+abbrev pub Performs : {O : Type 0} → (O → SinkState) → O → O → Reply → Result End Halt → Type 0
+Performs state before after reply (Ok end) =
+    IsWhole state before after reply.out × (end.status ≡ reply.status) × (end.line.bytes ≡ reply.err)
+Performs state before after reply (Err halt.Failed) = IsCut state before after reply.out
+Performs state before after reply (Err halt.Memory) = after ≡ before

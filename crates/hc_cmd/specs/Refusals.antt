@@ -10,7 +10,7 @@ use Rattle.hc_finds.specs.declared.stop.What as much
 use Rattle.hc_finds.specs.declared.stop.What.TheVariants as what
 use Rattle.hc_finds.specs.declared.stop.CheckStop as checks
 use Rattle.hc_finds.specs.declared.stop.CheckStop.TheVariants as check
-use Rattle.hc_reply.specs.Reply.{Reply}
+use Rattle.hc_cmd.specs.Reply.{Reply}
 use Rattle.hc_cmd.specs.declared.refusal.Refusal.{Refusal}
 use Rattle.hc_cmd.specs.declared.refusal.Refusal.TheVariants.{Usage, Unread, Memory, TooLong, NotBuilt, Unparsed, Unexpanded, Unchecked}
 
@@ -87,7 +87,7 @@ abbrev pub status_of : Refusal → ℕ
 status_of Usage = 2
 status_of Unread = 3
 status_of Memory = 5
-status_of TooLong = 1
+status_of (TooLong most) = 1
 status_of NotBuilt = 1
 status_of (Unparsed s) = status_of_stop s
 status_of (Unexpanded s) = status_of_module_stop s
@@ -97,7 +97,7 @@ abbrev pub message_of : Refusal → List ℕ
 message_of Usage = codes "usage: hcsp ACTION [N] [--seed K] [--horizon T] [--limit K] [--workers K] [--steps K] [--report]"
 message_of Unread = codes "read failed"
 message_of Memory = codes "out of memory"
-message_of TooLong = codes "source longer than 1048576 bytes"
+message_of (TooLong most) = codes "source longer than " ++ decimal most ++ codes " bytes"
 message_of NotBuilt = codes "not built"
 message_of (Unparsed s) = message_of_stop s
 message_of (Unexpanded s) = message_of_module_stop s

@@ -1,36 +1,37 @@
 //! The system of a source, and its size.
 
-ghost use Rattle.std.specs.Prelude.{◌≡◌, ◌⊎◌, MatchResult, length};
-ghost use Rattle.hc_modules.specs.declared.flat.Flat.{Flat as Expanded};
-ghost use Rattle.hc_modules.specs.Refusals.{HasText};
-ghost use Rattle.hc_cmd.specs.Refusals.{refused};
-ghost use Rattle.hc_cmd.specs.Prepared.{Accepts};
-ghost use Rattle.hc_cmd.specs.Replies.{Rejects, size_of};
+ghost use Rattle.std.specs.Prelude.{◌≡◌, ◌≤◌, length};
+ghost use Rattle.hc_limits.specs.Limits.{most_source_bytes};
+ghost use Rattle.hc_cmd.specs.Answers.{size_of};
+ghost use Rattle.hc_cmd.specs.Prepared.{FindsSystem, FindsTree};
 
 use crate::refusal::Refusal;
 use arrayvec::ArrayString;
 use hc_ast::Tree;
 use hc_check::check;
 use hc_modules::{Flat, expand};
+use hc_parse::parse;
 use hc_term::System;
 use itoa::Buffer;
 use std::alloc::Global;
 
-/// The processes of a source and its system, or the first refusal.
-pub(crate) fn accepted(alloc: Global, tree: &Tree) -> Result<(Flat, System), Refusal>
-    requires { HasText tree.now }
-    ensures { MatchResult result
-        (λ p. Accepts tree.now p.0 p.1)
-        (λ r. (refused r ≡ refused Refusal.Memory) ⊎ Rejects tree.now (refused r)) }
+/// The tree of a source, or its first refusal.
+pub(crate) fn tree_of(alloc: Global, text: &[u8]) -> Result<Tree, Refusal>
+    requires { length text.now ≤ most_source_bytes }
+    ensures { FindsTree text.now result }
 {
-    let flat = match expand(alloc, tree) {
-        Ok(flat) => flat,
-        Err(stop) => return Err(Refusal::Unexpanded(stop)),
-    };
-    match check(alloc, &flat) {
-        Ok(system) => Ok((flat, system)),
-        Err(stop) => Err(Refusal::Unchecked(stop)),
-    }
+    parse(alloc, text).map_err(Refusal::Unparsed)
+}
+
+/// The processes of a source and its system, or the first refusal.
+pub(crate) fn accepted(alloc: Global, text: &[u8]) -> Result<(Flat, System), Refusal>
+    requires { length text.now ≤ most_source_bytes }
+    ensures { FindsSystem text.now result }
+{
+    let tree = tree_of(alloc, text)?;
+    let flat = expand(alloc, &tree).map_err(Refusal::Unexpanded)?;
+    let system = check(alloc, &flat).map_err(Refusal::Unchecked)?;
+    Ok((flat, system))
 }
 
 /// The line that tells the size of an accepted source. It takes no memory.

@@ -1,8 +1,9 @@
-//! The program's words, and its top call: from the bytes that come in to the bytes that go out.
+//! The top call: from the words and the bytes that come in to the bytes that go out.
 #![tactic(auto)]
 
 mod accepting;
 mod answering;
+mod ending;
 mod laws;
 mod prepared;
 mod refusal;

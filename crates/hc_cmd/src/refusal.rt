@@ -3,6 +3,7 @@
 ghost use Rattle.std.specs.Prelude.{◌≡◌, ◌≤◌, length};
 ghost use Rattle.hc_cmd.specs.Refusals as spec;
 
+use crate::ending::End;
 use arrayvec::ArrayString;
 use hc_check::{CheckStop, What};
 use hc_frac::Place;
@@ -24,8 +25,9 @@ pub enum Refusal {
     Unread,
     #[error("there is no memory")]
     Memory,
+    /// It has more than so many bytes.
     #[error("the source is too long")]
-    TooLong,
+    TooLong(usize),
     #[error("the source is in a form that isn't built yet")]
     NotBuilt,
     #[error("the text isn't parsed")]
@@ -37,8 +39,18 @@ pub enum Refusal {
 }
 
 impl Refusal {
+    /// How a call ends that is refused so. It takes no memory.
+    pub(crate) fn end(self) -> End
+        ensures { (result.status ≡ spec.status_of self) × (result.line.bytes ≡ spec.line (spec.message_of self)) }
+    {
+        End {
+            status: self.status(),
+            line: self.line(),
+        }
+    }
+
     /// The status of the program that is refused so.
-    pub(crate) fn status(self) -> u8
+    fn status(self) -> u8
         ensures { result ≡ spec.status_of self }
     {
         match self {
@@ -53,14 +65,14 @@ impl Refusal {
     }
 
     /// The line that says so, with its newline. It takes no memory.
-    pub(crate) fn line(self) -> ArrayString<128>
+    fn line(self) -> ArrayString<128>
         ensures { result.bytes ≡ spec.line (spec.message_of self) }
     {
         match self {
             Refusal::Usage => line_of(USAGE),
             Refusal::Unread => line_of("read failed"),
             Refusal::Memory => line_of("out of memory"),
-            Refusal::TooLong => line_of("source longer than 1048576 bytes"),
+            Refusal::TooLong(most) => line_of_length(most),
             Refusal::NotBuilt => line_of("not built"),
             Refusal::Unparsed(stop) => line_of_stop(stop),
             Refusal::Unexpanded(stop) => line_of_module_stop(stop),
@@ -127,6 +139,18 @@ fn line_of_check_stop(stop: CheckStop) -> ArrayString<128>
         CheckStop::TwoReceivers { place } => line_at(place, "channel has two receivers"),
         CheckStop::Memory => line_of("out of memory"),
     }
+}
+
+/// The line of a text that is longer than so many bytes.
+fn line_of_length(most: usize) -> ArrayString<128>
+    ensures { result.bytes ≡ spec.line (spec.message_of (Refusal.TooLong most)) }
+{
+    let mut buffer = Buffer::new();
+    let mut line = ArrayString::new();
+    line.push_str("hcsp: source longer than ");
+    line.push_str(buffer.format(most));
+    line.push_str(" bytes\n");
+    line
 }
 
 /// The line of a message.

@@ -2,19 +2,16 @@
 
 ghost use Rattle.std.specs.Prelude.{◌≡◌, ◌⊎◌, MatchResult};
 ghost use Rattle.hc_term.specs.Given.{HasParts};
-ghost use Rattle.hc_term.specs.declared.run.Stop.{Stop};
-ghost use Rattle.hc_reply.specs.Sinks.{PutsWhole};
-ghost use Rattle.hc_words.specs.declared.requests.Request.TheVariants as asked;
-ghost use Rattle.hc_words.specs.Requests.{MayRun};
+ghost use Rattle.hc_cmd.specs.Answers.{Simulates, status_at};
 ghost use Rattle.hc_cmd.specs.Refusals.{refused};
-ghost use Rattle.hc_cmd.specs.Replies.{Simulates, status_at};
 
+use crate::ending::{End, Halt};
 use crate::refusal::Refusal;
 use hc_history::write_whole;
 use hc_plain::{CanonicalRun, canonical_run, is_plain_system};
 use hc_term::{Stop, System, Task};
 use hc_words::Settings;
-use hc_world::{Failed, Sink};
+use hc_world::Sink;
 use std::alloc::Global;
 
 /// A simulation with all its memory: nothing is left but to write it.
@@ -25,7 +22,7 @@ pub struct Simulation {
 }
 
 impl Simulation {
-    ghost use Rattle.hc_cmd.specs.Prepared.{simulation_reply, IsSimulated};
+    ghost use Rattle.hc_cmd.specs.Prepared.{simulation_reply, IsRun, Performs};
 
     /// The simulation of a system with these settings, or why there is none.
     pub(crate) fn of_system(
@@ -33,25 +30,22 @@ impl Simulation {
         settings: Settings,
         system: System,
     ) -> Result<Simulation, Refusal>
-        requires { MayRun (asked.Simulate settings) }
         ensures { MatchResult result
-            (λ s. IsSimulated s × Simulates settings system (simulation_reply s))
+            (λ s. IsRun s × Simulates settings system (simulation_reply s))
             (λ r. (refused r ≡ refused Refusal.Memory) ⊎ Simulates settings system (refused r)) }
     {
         if !is_plain_system(&system) {
             return Err(Refusal::NotBuilt);
         }
         let task = task_of(settings, system);
-        match canonical_run(alloc, &task) {
-            Ok(run) => Ok(Simulation { task, run }),
-            Err(_) => Err(Refusal::Memory),
-        }
+        let run = canonical_run(alloc, &task).map_err(|_| Refusal::Memory)?;
+        Ok(Simulation { task, run })
     }
 
-    /// Writes the whole text of the run. It takes no memory.
-    pub(crate) fn write<O: Sink>(&self, out: &mut O) -> Result<(), Failed>
-        requires { IsSimulated self.now }
-        ensures { PutsWhole O.told O.faults out.old out.new result (simulation_reply self.now).out }
+    /// Writes the whole text of the run, and tells its status. It takes no memory.
+    pub(crate) fn perform<O: Sink>(self, out: &mut O) -> Result<End, Halt>
+        requires { IsRun self }
+        ensures { Performs O.state out.old out.new (simulation_reply self) result }
     {
         write_whole(
             &self.task.system,
@@ -60,20 +54,13 @@ impl Simulation {
             self.run.stop,
             out,
         )
-    }
-
-    /// The status of the run by its stop.
-    pub(crate) fn status(&self) -> u8
-        requires { IsSimulated self.now }
-        ensures { result ≡ (simulation_reply self.now).status }
-    {
-        status_of_stop(self.run.stop)
+        .map_err(|_| Halt::Failed)?;
+        Ok(End::silent(status_of_stop(self.run.stop)))
     }
 }
 
 /// The task of simulating the system with these settings.
 fn task_of(settings: Settings, system: System) -> Task
-    requires { MayRun (asked.Simulate settings) }
     ensures { HasParts system settings.seed settings.horizon settings.limit result }
 {
     Task::new(system, settings.seed, settings.horizon, settings.limit)

@@ -1,5 +1,5 @@
 -- How expressions move, that a condition has one end moment, and what a delay leaves of it.
-use Rattle.std.specs.Prelude.{◌≡◌, length, IsTrue, Option, Some, None, ⊤}
+use Rattle.std.specs.Prelude.{◌≡◌, length, IsTrue}
 use Rattle.hc_rational.specs.Words.{Rational, zero_ℚ, ◌+ℚ◌, ◌*ℚ◌, ◌≤ℚ◌}
 use Rattle.hc_term.specs.declared.expr.Expr.{Expr}
 use Rattle.hc_term.specs.declared.expr.Cond.{Cond}

@@ -33,7 +33,7 @@ pub const MOST_VARIABLES: usize = 64;
 pub const MOST_GUARDS: usize = 32;
 
 /// The most steps to which a run may be limited, silent ones counted. The least is 1.
-pub const MOST_STEPS: u32 = 1_000_000;
+pub const MOST_STEPS: u64 = 1_000_000;
 
 /// The most silent steps of one event of a process.
 pub const MOST_SILENT_STEPS: u32 = 4_096;

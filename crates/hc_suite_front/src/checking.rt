@@ -3,18 +3,16 @@
 use crate::refusals::at;
 use hc_check::{CheckStop, What, check};
 use hc_frac::{Name, Place};
+use hc_limits::MOST_SOURCE_BYTES;
 use hc_modules::expand;
 use hc_parse::parse;
 use hc_term::{Process, System};
 use std::alloc::Global;
 use std::test::Fail;
 
-/// The most bytes of a text.
-const MOST_BYTES: usize = 1_048_576;
-
 /// What checking answers to a text that is a source and can be expanded, and how many statements it then has.
 fn checked(alloc: Global, text: &[u8]) -> Result<(Result<System, CheckStop>, u32), Fail> {
-    if text.len() > MOST_BYTES {
+    if text.len() > MOST_SOURCE_BYTES {
         return Err("the text is too long".into());
     }
     let Ok(tree) = parse(alloc, text) else {
@@ -32,7 +30,7 @@ fn refusal(alloc: Global, text: &[u8]) -> Result<Option<CheckStop>, Fail> {
 }
 
 /// Texts of one line with the refusal of each.
-const REFUSED: [(&[u8], CheckStop); 37] = [
+const REFUSED: [(&[u8], CheckStop); 34] = [
     (
         b"system P = (x := 1 / y) endsystem",
         CheckStop::DivisorNotLiteral {
@@ -160,38 +158,11 @@ const REFUSED: [(&[u8], CheckStop); 37] = [
         },
     ),
     (
-        b"system P = (<x_dot = 1 & x < 1 || x > 2>) endsystem",
-        CheckStop::DomainForm {
-            place: Place {
-                line: 1,
-                column: 32,
-            },
-        },
-    ),
-    (
-        b"system P = (<x_dot = 1 & x < 1 && !true>) endsystem",
-        CheckStop::DomainForm {
-            place: Place {
-                line: 1,
-                column: 35,
-            },
-        },
-    ),
-    (
-        b"system P = (<x_dot = 1 & [!true] || false>) endsystem",
-        CheckStop::DomainForm {
-            place: Place {
-                line: 1,
-                column: 27,
-            },
-        },
-    ),
-    (
         b"system P = (<x_dot = 1 & x * x < 1>; <x_dot = 1 & false || true>) endsystem",
-        CheckStop::DomainForm {
+        CheckStop::NotAffine {
             place: Place {
                 line: 1,
-                column: 57,
+                column: 28,
             },
         },
     ),
@@ -383,7 +354,7 @@ type Accepted = (
     &'static [&'static [&'static str]],
 );
 
-const ACCEPTED: [Accepted; 10] = [
+const ACCEPTED: [Accepted; 11] = [
     (
         b"system P = (x := 1 / 2 / 0.01; y := x / (2); log(0 / 3)) endsystem",
         &[],
@@ -398,6 +369,11 @@ const ACCEPTED: [Accepted; 10] = [
         b"system P = (<x_dot = 1 & x < 1 && [y >= 2 && true]>; if x < 1 || !false then skip endif) endsystem",
         &[],
         &[&["x", "y"]],
+    ),
+    (
+        b"system P = (<x_dot = 1 & x < 2 || ![x > 3]>; <x_dot = 1 & x < 1 && !true>; <x_dot = 1 & [!true] || false>) endsystem",
+        &[],
+        &[&["x"]],
     ),
     (
         b"system P = (<x_dot = y * y & x * 2 * y < y * x> |> [](c!(z * x - x / 2) --> log(x * x)); x := x * x) endsystem",

@@ -3,18 +3,16 @@
 use crate::refusals::{at, read};
 use hc_ast::{Body, ProcessDef, StmtTree, Tree, same_tree};
 use hc_frac::Place;
+use hc_limits::MOST_SOURCE_BYTES;
 use hc_list::List;
 use hc_modules::{Flat, ModuleStop, expand};
 use hc_parse::parse;
 use std::alloc::Global;
 use std::test::Fail;
 
-/// The most bytes of a text.
-const MOST_BYTES: usize = 1_048_576;
-
 /// What expanding answers to a text that is a source.
 fn expanded(alloc: Global, text: &[u8]) -> Result<Result<Flat, ModuleStop>, Fail> {
-    if text.len() > MOST_BYTES {
+    if text.len() > MOST_SOURCE_BYTES {
         return Err("the text is too long".into());
     }
     match parse(alloc, text) {

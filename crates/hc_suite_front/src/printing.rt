@@ -1,17 +1,15 @@
 //! Sources that are printed and read back.
 
 use hc_ast::{Tree, same_tree};
+use hc_limits::MOST_SOURCE_BYTES;
 use hc_parse::parse;
 use hc_print::print;
 use std::alloc::Global;
 use std::test::Fail;
 
-/// The most bytes of a text.
-const MOST_BYTES: usize = 1_048_576;
-
 /// The tree of a source, and its canonical spelling.
 fn printed(alloc: Global, text: &[u8]) -> Result<(Tree, Vec<u8>), Fail> {
-    if text.len() > MOST_BYTES {
+    if text.len() > MOST_SOURCE_BYTES {
         return Err("the text is too long".into());
     }
     match parse(alloc, text) {

@@ -2,16 +2,14 @@
 
 use hc_ast::Tree;
 use hc_frac::Place;
+use hc_limits::MOST_SOURCE_BYTES;
 use hc_parse::{ParseStop, parse};
 use std::alloc::Global;
 use std::test::Fail;
 
-/// The most bytes of a text.
-const MOST_BYTES: usize = 1_048_576;
-
 /// What parsing answers to a text.
 pub(crate) fn read(alloc: Global, text: &[u8]) -> Result<Result<Tree, ParseStop>, Fail> {
-    if text.len() > MOST_BYTES {
+    if text.len() > MOST_SOURCE_BYTES {
         return Err("the text is too long".into());
     }
     Ok(parse(alloc, text))

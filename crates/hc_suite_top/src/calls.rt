@@ -28,7 +28,41 @@ pub(crate) const NONE: Faults<'static> = Faults {
     err: &[],
 };
 
-/// Calls the program with these words behind its name, and compares the status and what stands on output and error.
+/// What the outside is like: how many bytes a read gives at most, for how many there is room on output, and what fails.
+#[derive(Drop)]
+pub(crate) struct World<'a> {
+    pub(crate) most: usize,
+    pub(crate) room: usize,
+    pub(crate) faults: &'a Faults<'a>,
+}
+
+/// Calls the program with these words, and compares the status and what stands on output and error.
+pub(crate) fn expect_in_world(
+    rt: &impl Abort,
+    alloc: Global,
+    given: &[&str],
+    text: &[u8],
+    world: &World,
+    wanted: &Wanted,
+) -> Result<(), Fail> {
+    let mut words = Vec::new(alloc);
+    for word in given {
+        words.push(String::from_str(alloc, word)?)?;
+    }
+    let faults = world.faults;
+    let bytes = Vec::from_slice(alloc, text)?;
+    let most = world.most.max(1);
+    let mut source = MemSource::open(bytes, most, Vec::from_slice(alloc, faults.source)?);
+    let mut out = MemSink::open(alloc, world.room, Vec::from_slice(alloc, faults.out)?)?;
+    let mut err = MemSink::open(alloc, 4096, Vec::from_slice(alloc, faults.err)?)?;
+    let status = answer(alloc, &words, &mut source, &mut out, &mut err);
+    assert_eq!(rt; status, wanted.status);
+    assert_eq!(rt; out.bytes(), wanted.out.as_bytes());
+    assert_eq!(rt; err.bytes(), wanted.err.as_bytes());
+    Ok(())
+}
+
+/// Calls the program with these words behind its name.
 pub(crate) fn expect_words(
     rt: &impl Abort,
     alloc: Global,
@@ -38,19 +72,16 @@ pub(crate) fn expect_words(
     wanted: &Wanted,
 ) -> Result<(), Fail> {
     let mut words = Vec::new(alloc);
-    words.push(String::from_str(alloc, "hcsp")?)?;
+    words.push("hcsp")?;
     for word in behind {
-        words.push(String::from_str(alloc, word)?)?;
+        words.push(*word)?;
     }
-    let bytes = Vec::from_slice(alloc, text)?;
-    let mut source = MemSource::open(bytes, 4096, Vec::from_slice(alloc, faults.source)?);
-    let mut out = MemSink::open(alloc, 4096, Vec::from_slice(alloc, faults.out)?)?;
-    let mut err = MemSink::open(alloc, 4096, Vec::from_slice(alloc, faults.err)?)?;
-    let status = answer(alloc, &words, &mut source, &mut out, &mut err);
-    assert_eq!(rt; status, wanted.status);
-    assert_eq!(rt; out.bytes(), wanted.out.as_bytes());
-    assert_eq!(rt; err.bytes(), wanted.err.as_bytes());
-    Ok(())
+    let world = World {
+        most: 4096,
+        room: 4096,
+        faults,
+    };
+    expect_in_world(rt, alloc, words.as_slice(), text, &world, wanted)
 }
 
 /// Does the action with the text.

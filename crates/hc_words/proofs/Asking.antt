@@ -1,35 +1,77 @@
 -- What the words ask for, by their action and what stands behind it.
-use Rattle.std.proofs.Common.{◌≡◌, refl, ℕ, Bool, true, false, ◌&&◌, nat_le, if◌then◌else◌, ◌∙◌, sym, subst, ap, ◌≤◌, ◌<◌, [], ◌∷◌, arith, length, slice_index_or, option_map, List, map, slice_get, Option, Some, None, IsTrue}
+use Rattle.std.proofs.Common.{◌≡◌, refl, ℕ, Bool, true, false, ◌&&◌, nat_le, if◌then◌else◌, ◌∙◌, sym, subst, ap, ◌≤◌, ◌<◌, [], ◌∷◌, arith, length, slice_index_or, option_map, List, map, slice_get, Option, Some, None, is_some, IsTrue, Result, Ok, Err, is_ok, IsErrOf}
 use Rattle.std.proofs.lemmas.Option.{slice_get-map, slice_get-get_or}
+use Rattle.std.specs.Prelude.{codes}
+use Rattle.std.specs.Str.{bytes_eq}
 use Rattle.clap.specs.Walk.{Text}
 use Rattle.std.specs.Str.Parse.{digits_value}
 use Rattle.std.proofs.lemmas.Bool.{leb-true}
+use Rattle.hc_limits.specs.Limits.{most_steps}
 use Rattle.hc_rational.specs.Words.{Rational, is_positive}
 use Rattle.hc_words.specs.declared.requests.Request.{Request}
-use Rattle.hc_words.specs.declared.requests.Request.TheVariants.{Check, Print, Simulate}
+use Rattle.hc_words.specs.declared.requests.WordsStop.{WordsStop}
+use Rattle.hc_words.specs.declared.requests.WordsStop.TheVariants.{Usage}
+use Rattle.hc_words.specs.declared.actions.Action.{Action}
+use Rattle.hc_words.specs.declared.actions.Action.TheVariants as act
+use Rattle.hc_words.specs.Actions.{name_of_action, belongs}
+use Rattle.hc_words.specs.Seen.{IsRequested}
 use Rattle.hc_words.specs.Line.{Given, is_taken, given}
-use Rattle.hc_words.specs.Requests.{Ask, AskFor, MayRun, limit_in, IsHorizon}
+use Rattle.hc_words.specs.Requests.{Ask, Asks, limit_in, IsHorizon}
 use Rattle.hc_words.specs.Numbers.{is_digits, number_within}
 use Rattle.hc_words.proofs.Defaults.{hundred_positive}
 
-pub ask : (words : List Text) (action read : Text) (g : Given) (r : Request) → slice_get words 1 ≡ Some action → IsTrue (is_taken words) →
-    read ≡ action → g ≡ given words → AskFor read g r → Ask words r
-ask words action read g r named taken same is asked =
-    record { action = action; named = named; taken = taken; asked = subst (λ h. AskFor action h r) is (subst (λ a. AskFor a g r) same asked) }
+-- what is asked for behind the second word is what the words ask for
+pub ask : (words : List Text) (second name : Text) (g : Given) (r : Request) → slice_get words 1 ≡ Some second → IsTrue (is_taken words) →
+    name ≡ second → g ≡ given words → IsRequested name g r → Ask words r
+ask words second name g r named taken same is asked = record {
+  action = asked.action;
+  named = named ∙ ap Some (sym (asked.named ∙ same));
+  taken = taken;
+  belonging = subst (λ h. IsTrue (belongs asked.action h)) is asked.belonging;
+  asked = subst (λ h. Asks asked.action h r) is asked.asked;
+}
 
 some_same : (a b : Text) → Some a ≡ Some b → a ≡ b
 some_same a b e = cc
 
-pub not_asked_for : (words : List Text) (action read other : Text) (g : Given) → slice_get words 1 ≡ Some action → read ≡ action → g ≡ given words →
-    ((r : Request) → AskFor read g r → ⊥) → slice_get words 1 ≡ Some other → (r : Request) → AskFor other (given words) r → ⊥
-not_asked_for words action read other g named same is none named_other r asked =
-    let equal = some_same action other (sym named ∙ named_other) in
-    none r (subst (λ a. AskFor a g r) (sym same) (subst (λ h. AskFor action h r) (sym is) (subst (λ a. AskFor a (given words) r) (sym equal) asked)))
+pub not_asked : (words : List Text) (second name : Text) (g : Given) → slice_get words 1 ≡ Some second → name ≡ second → g ≡ given words →
+    ((r : Request) → IsRequested name g r → ⊥) → (r : Request) → Ask words r → ⊥
+not_asked words second name g named same is none r asked = none r (record {
+  action = asked.action;
+  named = sym (some_same second (name_of_action asked.action) (sym named ∙ asked.named)) ∙ sym same;
+  belonging = subst (λ h. IsTrue (belongs asked.action h)) (sym is) asked.belonging;
+  asked = subst (λ h. Asks asked.action h r) (sym is) asked.asked;
+})
 
-pub not_asked : (words : List Text) (action read : Text) (g : Given) → slice_get words 1 ≡ Some action → read ≡ action → g ≡ given words →
-    ((r : Request) → AskFor read g r → ⊥) → (r : Request) → Ask words r → ⊥
-not_asked words action read g named same is none r asked =
-    not_asked_for words action read asked.action g named same is none asked.named r asked.asked
+-- nothing is found where the answer is that the words ask for nothing
+pub none_found : (o : Option Request) (r : Result Request WordsStop) → is_ok r ≡ is_some o → IsErrOf r Usage → o ≡ None
+none_found None r same e = refl
+none_found (Some x) (Ok y) same e = absurd (cc e)
+none_found (Some x) (Err y) same e = absurd (cc same)
+
+-- ---- actions by their names
+
+-- texts of which one test tells the other apart
+pub apart : (a b : Text) → bytes_eq a a ≡ true → bytes_eq b a ≡ false → a ≡ b → ⊥
+apart a b same other e =
+    let both : true ≡ false = sym same ∙ ap (λ w. bytes_eq w a) e ∙ other in
+    cc both
+
+-- a name is that of one action at most
+pub one_action : (a b : Action) → name_of_action a ≡ name_of_action b → a ≡ b
+one_action act.Check act.Check e = refl
+one_action act.Check act.Print e = absurd (apart (codes "check") (codes "print") refl refl e)
+one_action act.Check act.Simulate e = absurd (apart (codes "check") (codes "simulate") refl refl e)
+one_action act.Print act.Check e = absurd (apart (codes "print") (codes "check") refl refl e)
+one_action act.Print act.Print e = refl
+one_action act.Print act.Simulate e = absurd (apart (codes "print") (codes "simulate") refl refl e)
+one_action act.Simulate act.Check e = absurd (apart (codes "simulate") (codes "check") refl refl e)
+one_action act.Simulate act.Print e = absurd (apart (codes "simulate") (codes "print") refl refl e)
+one_action act.Simulate act.Simulate e = refl
+
+-- the same for an action that was found by its name
+pub found_action : (name : Text) (a : Action) (g : Given) (r : Request) → name_of_action a ≡ name → (asked : IsRequested name g r) → asked.action ≡ a
+found_action name a g r named asked = one_action asked.action a (asked.named ∙ sym named)
 
 -- the second word, read of each element by `f`
 pub second_word : {S : Type 0} (f : S → Text) (items shown : List S) (x : S) → shown ≡ items → 2 ≤ length shown → x ≡ slice_index_or shown 1 x →
@@ -55,17 +97,12 @@ within least most n t e = go (is_digits t) (nat_le least (digits_value 10 t)) (n
     go true false b i j e = cc e
     go false a b i j e = cc e
 
-limits : (o : Option Text) (n : ℕ) → limit_in o ≡ Some n → (1 ≤ n) × (n ≤ 1000000)
+-- a limit that is given or not is in range
+pub limits : (o : Option Text) (n : ℕ) → limit_in o ≡ Some n → (1 ≤ n) × (n ≤ most_steps)
 limits None n e = let same : 10000 ≡ n = cc e in (omega (arith, same), omega (arith, same))
-limits (Some t) n e = within 1 1000000 n t e
+limits (Some t) n e = within 1 most_steps n t e
 
-positive : (o : Option Text) (q : Rational) → IsHorizon o q → IsTrue (is_positive q)
+-- a horizon that is given or not is positive
+pub positive : (o : Option Text) (q : Rational) → IsHorizon o q → IsTrue (is_positive q)
 positive None q e = subst (λ r. IsTrue (is_positive r)) (sym e) hundred_positive
 positive (Some t) q h = h.1
-
-pub may_run : (action : Text) (g : Given) (r : Request) → AskFor action g r → MayRun r
-may_run action g Check h = tt
-may_run action g Print h = tt
-may_run action g (Simulate s) h =
-    let range = limits g.limit s.limit h.1.limit in
-    (positive g.horizon s.horizon h.1.horizon, range.0, range.1)

@@ -1,25 +1,29 @@
--- Words in order: clap takes them, and they ask for something.
-use Rattle.std.proofs.Common.{◌≡◌, refl, ap, sym, subst, ◌∙◌, ℕ, ◌==◌, inl, inr, true, false, not, List, [], ◌∷◌, ◌++◌, map, Option, Some, None, slice_get, IsTrue}
+-- Words in order: clap takes them, and they ask for what their choices say.
+use Rattle.std.proofs.Common.{◌≡◌, refl, ap, sym, subst, ◌∙◌, ℕ, ◌==◌, Bool, true, false, not, ◌||◌, List, [], ◌∷◌, ◌++◌, map, Option, Some, None, slice_get, IsTrue}
 use Rattle.std.specs.Prelude.{codes, flat_map, pos}
-use Rattle.std.specs.List.{All}
+use Rattle.std.specs.List.{All, list_all}
 use Rattle.std.specs.Str.{bytes_eq}
 use Rattle.std.proofs.lemmas.Bool.{and_from}
-use Rattle.std.proofs.lemmas.List.Elements.{All-weaker, All-nil}
-use Rattle.clap.specs.Walk.{Text, has_row}
-use Rattle.clap.specs.Takes.{takes}
+use Rattle.std.proofs.lemmas.List.Elements.{All-weaker}
+use Rattle.clap.specs.Walk.{Text, Row, first_of, has_row}
 use Rattle.hc_rational.specs.Words.{Rational}
 use Rattle.hc_rational.specs.Rational.{whole}
+use Rattle.hc_words.specs.declared.actions.Action.{Action}
+use Rattle.hc_words.specs.declared.actions.Action.TheVariants as act
+use Rattle.hc_words.specs.declared.actions.Room.{Room}
 use Rattle.hc_words.specs.declared.requests.Request.{Request}
 use Rattle.hc_words.specs.declared.requests.Request.TheVariants.{Check, Print, Simulate}
-use Rattle.hc_words.specs.declared.requests.Settings.{Settings}
-use Rattle.hc_words.specs.Line.{hcsp, Given, given, given_in}
-use Rattle.hc_words.specs.Order.{Setting, seed, horizon, limit, name_of, Choice, words_of, are_apart, IsRight, AreInOrder, bare, simulation}
-use Rattle.hc_words.specs.Requests.{AreSettings, AskFor, IsHorizon, is_plain, limit_in, seed_in}
+use Rattle.hc_words.specs.declared.settings.Settings.{Settings}
+use Rattle.hc_words.specs.Actions.{name_of_action, room_of, fits, belongs}
+use Rattle.hc_words.specs.Line.{Given, given, given_in, is_taken}
+use Rattle.hc_words.specs.Order.{Setting, seed, horizon, limit, name_of, Choice, words_of, are_apart, IsRight, has, AreInOrder, said, given_by}
+use Rattle.hc_words.specs.Requests.{Ask, Asks, AreSettings, IsHorizon, limit_in, seed_in}
+use Rattle.hc_words.proofs.Asking.{limits, positive}
 use Rattle.hc_words.proofs.Rights.{BeginsPlain, right_plain}
 use Rattle.hc_words.proofs.Choices.{Leads, are_new, choices_lead, row_of_choice}
 use Rattle.hc_words.proofs.Options.{shape, rule_at, is_option}
-use Rattle.hc_words.proofs.Passing.{acting, action_row, action_reached, led_taken}
-use Rattle.hc_words.proofs.Values.{IsRightIn, all_right, led_matches, no_report, not_report, passed_over, report_row}
+use Rattle.hc_words.proofs.Passing.{acting, action_row, action_reached, led_free}
+use Rattle.hc_words.proofs.Values.{IsRightIn, first_said, said_right, said_allowed, led_matches, no_report, not_report, passed_over, report_row}
 
 -- ---- an action with choices behind it
 
@@ -31,33 +35,6 @@ not_action (c ∷ cs) action = and_from _ _ (go c.setting) (not_action cs action
     go seed = refl
     go horizon = refl
     go limit = refl
-
-module _ (x : ℕ) (v : Text) (e : (x == 45) ≡ false) (cs : List Choice) (right : All (λ c. IsRight c.setting c.value) cs) (apart : are_apart cs ≡ true) where
-  led : Leads shape (acting (x ∷ v)) 2 (flat_map words_of cs) (action_row (x ∷ v) ∷ map row_of_choice cs)
-  led =
-      choices_lead shape rule_at is_option cs (acting (x ∷ v)) (action_row (x ∷ v) ∷ []) 2
-      (All-weaker (λ (c : Choice). IsRight c.setting c.value) (λ (c : Choice). BeginsPlain c.value) (λ c h. right_plain c.setting c.value h) cs right)
-      (action_reached (x ∷ v)) (not_action cs (x ∷ v)) apart
-
-  pub action_taken : (name : Text) → takes hcsp (name ∷ (x ∷ v) ∷ flat_map words_of cs) ≡ true
-  action_taken name = led_taken name x v (flat_map words_of cs) _ e led
-
-  pub action_given : (name : Text) → given (name ∷ (x ∷ v) ∷ flat_map words_of cs) ≡ given_in ((action_row (x ∷ v) ∷ map row_of_choice cs) ++ report_row ∷ [])
-  action_given name = ap given_in (led_matches name x v (flat_map words_of cs) _ e led (no_report (x ∷ v) cs))
-
--- ---- what they ask for
-
-seed_found : (o : Option Text) → IsRightIn seed o → (n : ℕ) × (seed_in o ≡ Some n)
-seed_found None h = (0, refl)
-seed_found (Some t) h = h
-
-limit_found : (o : Option Text) → IsRightIn limit o → (n : ℕ) × (limit_in o ≡ Some n)
-limit_found None h = (10000, refl)
-limit_found (Some t) h = h
-
-horizon_found : (o : Option Text) → IsRightIn horizon o → (q : Rational) × IsHorizon o q
-horizon_found None h = (whole (pos 100), refl)
-horizon_found (Some t) h = (h.0, (h.1, h.2))
 
 not_number : (k : Setting) → bytes_eq (name_of k) (codes "N") ≡ false
 not_number seed = refl
@@ -74,78 +51,103 @@ not_steps seed = refl
 not_steps horizon = refl
 not_steps limit = refl
 
--- what is given by an action with choices behind it
-abbrev found : Text → List Choice → Given
-found action cs = given_in ((action_row action ∷ map row_of_choice cs) ++ report_row ∷ [])
-
-plain_found : (action : Text) (cs : List Choice) → IsTrue (is_plain (found action cs))
-plain_found action cs =
+-- the rows of an action with choices behind it are what the choices give
+rows_give : (action : Text) (cs : List Choice) → given_in ((action_row action ∷ map row_of_choice cs) ++ report_row ∷ []) ≡ given_by cs
+rows_give action cs =
     let number = passed_over (codes "N") not_number cs (report_row ∷ []) in
+    let first = first_said seed cs (report_row ∷ []) refl in
+    let second = first_said horizon cs (report_row ∷ []) refl in
+    let third = first_said limit cs (report_row ∷ []) refl in
     let workers = passed_over (codes "workers") not_workers cs (report_row ∷ []) in
     let steps = passed_over (codes "steps") not_steps cs (report_row ∷ []) in
-    let reports = passed_over (codes "report") not_report cs (report_row ∷ []) in
-    rw (number, workers, steps, reports) refl
+    let report = passed_over (codes "report") not_report cs (report_row ∷ []) in
+    rw (number, first, second, third, workers, steps, report) refl
 
-settings_found : (action : Text) (cs : List Choice) → All (λ c. IsRight c.setting c.value) cs → (s : Settings) × AreSettings (found action cs) s
-settings_found action cs right =
-    let first = seed_found _ (all_right seed cs (report_row ∷ []) right refl) in
-    let second = horizon_found _ (all_right horizon cs (report_row ∷ []) right refl) in
-    let third = limit_found _ (all_right limit cs (report_row ∷ []) right refl) in (
-      record { seed = first.0; horizon = second.0; limit = third.0 },
-      record { plain = plain_found action cs; seed = first.1; horizon = second.1; limit = third.1 },
+module _ (x : ℕ) (v : Text) (e : (x == 45) ≡ false) (cs : List Choice) (right : All (λ c. IsRight c.setting c.value) cs) (apart : are_apart cs ≡ true) where
+  led : Leads shape (acting (x ∷ v)) 2 (flat_map words_of cs) (action_row (x ∷ v) ∷ map row_of_choice cs)
+  led =
+      choices_lead shape rule_at is_option cs (acting (x ∷ v)) (action_row (x ∷ v) ∷ []) 2
+      (All-weaker (λ (c : Choice). IsRight c.setting c.value) (λ (c : Choice). BeginsPlain c.value) (λ c h. right_plain c.setting c.value h) cs right)
+      (action_reached (x ∷ v)) (not_action cs (x ∷ v)) apart
+
+  word_taken : (name : Text) → is_taken (name ∷ (x ∷ v) ∷ flat_map words_of cs) ≡ true
+  word_taken name = led_free name x v (flat_map words_of cs) _ e led
+
+  word_given : (name : Text) → given (name ∷ (x ∷ v) ∷ flat_map words_of cs) ≡ given_by cs
+  word_given name = ap given_in (led_matches name x v (flat_map words_of cs) _ e led (no_report (x ∷ v) cs)) ∙ rows_give (x ∷ v) cs
+
+module _ (cs : List Choice) (right : All (λ c. IsRight c.setting c.value) cs) (apart : are_apart cs ≡ true) (name : Text) where
+  action_taken : (a : Action) → is_taken (name ∷ name_of_action a ∷ flat_map words_of cs) ≡ true
+  action_taken act.Check = word_taken 99 (codes "heck") refl cs right apart name
+  action_taken act.Print = word_taken 112 (codes "rint") refl cs right apart name
+  action_taken act.Simulate = word_taken 115 (codes "imulate") refl cs right apart name
+
+  action_given : (a : Action) → given (name ∷ name_of_action a ∷ flat_map words_of cs) ≡ given_by cs
+  action_given act.Check = word_given 99 (codes "heck") refl cs right apart name
+  action_given act.Print = word_given 112 (codes "rint") refl cs right apart name
+  action_given act.Simulate = word_given 115 (codes "imulate") refl cs right apart name
+
+-- ---- what they ask for
+
+seed_found : (o : Option Text) → IsRightIn seed o → (n : ℕ) × (seed_in o ≡ Some n)
+seed_found None h = (0, refl)
+seed_found (Some t) h = h
+
+limit_found : (o : Option Text) → IsRightIn limit o → (n : ℕ) × (limit_in o ≡ Some n)
+limit_found None h = (10000, refl)
+limit_found (Some t) h = h
+
+horizon_found : (o : Option Text) → IsRightIn horizon o → (q : Rational) × IsHorizon o q
+horizon_found None h = (whole (pos 100), refl)
+horizon_found (Some t) h = (h.0, (h.1, h.2))
+
+settings_found : (cs : List Choice) → All (λ c. IsRight c.setting c.value) cs → (s : Settings) × AreSettings (given_by cs) s
+settings_found cs right =
+    let first = seed_found (said seed cs) (said_right seed cs right) in
+    let second = horizon_found (said horizon cs) (said_right horizon cs right) in
+    let third = limit_found (said limit cs) (said_right limit cs right) in (
+      record {
+        seed = first.0;
+        horizon = second.0;
+        limit = third.0;
+        positive = positive (said horizon cs) second.0 second.1;
+        in_range = limits (said limit cs) third.0 third.1;
+      },
+      record { seed = first.1; horizon = second.1; limit = third.1 },
     )
 
--- ---- words in order
+asked_by : (a : Action) (cs : List Choice) → All (λ c. IsRight c.setting c.value) cs → (r : Request) × Asks a (given_by cs) r
+asked_by act.Check cs right = (Check, refl)
+asked_by act.Print cs right = (Print, refl)
+asked_by act.Simulate cs right = let s = settings_found cs right in (Simulate s.0, (s.0, s.1, refl))
 
-check_action : (name : Text) → takes hcsp (name ∷ codes "check" ∷ []) ≡ true
-check_action name = action_taken 99 (codes "heck") refl [] (All-nil (λ (c : Choice). IsRight c.setting c.value)) refl name
+-- choices that belong to an action fit its row of the table, where that asks for no N
+fitting : (room : Room) (cs : List Choice) → list_all (λ c. has room c.setting) cs ≡ true → room.number ≡ false → fits room (given_by cs) ≡ true
+fitting room cs belong none =
+    and_from _ _ (and_from _ _ (and_from _ _ (and_from _ _ (and_from _ _ (and_from _ _ (ap not none)
+    (said_allowed room seed cs belong)) (said_allowed room horizon cs belong)) (said_allowed room limit cs belong)) refl) refl) (either room.report)
+  where
+    either : (b : Bool) → (b || true) ≡ true
+    either true = refl
+    either false = refl
 
-print_action : (name : Text) → takes hcsp (name ∷ codes "print" ∷ []) ≡ true
-print_action name = action_taken 112 (codes "rint") refl [] (All-nil (λ (c : Choice). IsRight c.setting c.value)) refl name
+allowed_by : (a : Action) (cs : List Choice) → list_all (λ c. has (room_of a) c.setting) cs ≡ true → belongs a (given_by cs) ≡ true
+allowed_by act.Check cs belong = fitting (room_of act.Check) cs belong refl
+allowed_by act.Print cs belong = fitting (room_of act.Print) cs belong refl
+allowed_by act.Simulate cs belong = fitting (room_of act.Simulate) cs belong refl
 
-check_given : (name : Text) → given (name ∷ codes "check" ∷ []) ≡ found (codes "check") []
-check_given name = action_given 99 (codes "heck") refl [] (All-nil (λ (c : Choice). IsRight c.setting c.value)) refl name
-
-print_given : (name : Text) → given (name ∷ codes "print" ∷ []) ≡ found (codes "print") []
-print_given name = action_given 112 (codes "rint") refl [] (All-nil (λ (c : Choice). IsRight c.setting c.value)) refl name
-
--- clap takes words in order
-pub in_order_taken : (words : List Text) → AreInOrder words → takes hcsp words ≡ true
-in_order_taken words (bare name action (inl which) is) =
-    ap (takes hcsp) (is ∙ ap (λ a. name ∷ a ∷ []) which) ∙ check_action name
-in_order_taken words (bare name action (inr which) is) =
-    ap (takes hcsp) (is ∙ ap (λ a. name ∷ a ∷ []) which) ∙ print_action name
-in_order_taken words (simulation name choices apart right is) =
-    ap (takes hcsp) is ∙ action_taken 115 (codes "imulate") refl choices right apart name
-
--- the words ask for this, all but that clap takes them
-pub record Asks (words : List Text) : Type 0 where
-  pub action : Text
-  pub named : slice_get words 1 ≡ Some action
-  pub request : Request
-  pub asked : AskFor action (given words) request
-
-asks_of : (name action : Text) (rest words : List Text) (g : Given) (r : Request) → words ≡ name ∷ action ∷ rest → given (name ∷ action ∷ rest) ≡ g →
-    AskFor action g r → Asks words
-asks_of name action rest words g r is given_is asked = record {
-  action = action;
-  named = ap (λ ws. slice_get ws 1) is;
-  request = r;
-  asked = subst (λ (h : Given). AskFor action h r) (sym (ap given is ∙ given_is)) asked;
-}
-
-in_order_asks : (words : List Text) → AreInOrder words → Asks words
-in_order_asks words (bare name action (inl which) is) =
-    asks_of name (codes "check") [] words _ Check (is ∙ ap (λ a. name ∷ a ∷ []) which) (check_given name) (refl, refl)
-in_order_asks words (bare name action (inr which) is) =
-    asks_of name (codes "print") [] words _ Print (is ∙ ap (λ a. name ∷ a ∷ []) which) (print_given name) (refl, refl)
-in_order_asks words (simulation name choices apart right is) =
-    let s = settings_found (codes "simulate") choices right in
-    asks_of name (codes "simulate") (flat_map words_of choices) words _ (Simulate s.0) is
-    (action_given 115 (codes "imulate") refl choices right apart name) (refl, s.1)
-
--- words in order ask for something
-pub in_order_asked : (words : List Text) → AreInOrder words → (action : Text) × (slice_get words 1 ≡ Some action) × ((r : Request) × AskFor action (given words) r)
-in_order_asked words order =
-    let asks = in_order_asks words order in
-    (asks.action, asks.named, (asks.request, asks.asked))
+pub in_order_ask : (words : List Text) (order : AreInOrder words) → (r : Request) × Ask words r × Asks order.action (given_by order.choices) r
+in_order_ask words order =
+    let asks = asked_by order.action order.choices order.right in
+    let gives : given words ≡ given_by order.choices =
+    ap given order.words_are ∙ action_given order.choices order.right order.apart order.name order.action in (
+      asks.0,
+      record {
+        action = order.action;
+        named = ap (λ ws. slice_get ws 1) order.words_are;
+        taken = ap is_taken order.words_are ∙ action_taken order.choices order.right order.apart order.name order.action;
+        belonging = ap (belongs order.action) gives ∙ allowed_by order.action order.choices order.belong;
+        asked = subst (λ (g : Given). Asks order.action g asks.0) (sym gives) asks.1;
+      },
+      asks.1,
+    )

@@ -7,6 +7,7 @@ pub mod Uses
 pub mod Steps
 pub mod Options
 pub mod Choices
+pub mod NoFault
 pub mod Passing
 pub mod Values
 pub mod InOrder

@@ -1,14 +1,18 @@
 -- Words ask for one thing at most.
-use Rattle.std.proofs.Common.{◌≡◌, ℕ, true, false, List, Option, Some, None, refl, sym, ap, subst, ◌∙◌}
-use Rattle.std.specs.Prelude.{codes}
-use Rattle.std.specs.Str.{bytes_eq}
+use denote.Struct.Props.{props}
+use Rattle.std.proofs.Common.{◌≡◌, ◌≤◌, ℕ, List, slice_get, Option, Some, None, IsTrue, refl, sym, ap, subst, ◌∙◌}
+use Rattle.hc_limits.specs.Limits.{most_steps}
 use Rattle.clap.specs.Walk.{Text}
-use Rattle.hc_rational.specs.Words.{Rational}
+use Rattle.hc_rational.specs.Words.{Rational, is_positive}
 use Rattle.hc_words.specs.declared.requests.Request.{Request}
-use Rattle.hc_words.specs.declared.requests.Request.TheVariants.{Check, Print, Simulate}
-use Rattle.hc_words.specs.declared.requests.Settings.{Settings}
+use Rattle.hc_words.specs.declared.requests.Request.TheVariants.{Simulate}
+use Rattle.hc_words.specs.declared.settings.Settings.{Settings}
 use Rattle.hc_words.specs.Line.{Given, given}
-use Rattle.hc_words.specs.Requests.{IsHorizon, AreSettings, AskFor, Ask}
+use Rattle.hc_words.specs.Requests.{IsHorizon, AreSettings, Asks, Ask}
+use Rattle.hc_words.specs.declared.actions.Action.{Action}
+use Rattle.hc_words.specs.declared.actions.Action.TheVariants as act
+use Rattle.hc_words.specs.Actions.{name_of_action}
+use Rattle.hc_words.proofs.Asking.{one_action}
 use Rattle.hc_words.proofs.OneFraction.{one_fraction}
 
 one_value : {X : Type 0} (o : Option X) (x y : X) → o ≡ Some x → o ≡ Some y → x ≡ y
@@ -18,41 +22,41 @@ one_horizon : (t : Option Text) (q r : Rational) → IsHorizon t q → IsHorizon
 one_horizon None q r e f = e ∙ sym f
 one_horizon (Some t) q r e f = one_fraction t q r e.0 f.0
 
-abbrev settings : ℕ → Rational → ℕ → Settings
-settings seed horizon limit = record { seed = seed; horizon = horizon; limit = limit }
+-- that the horizon is positive is one fact
+one_fact : (q : Rational) (k l : IsTrue (is_positive q)) → k ≡ l
+one_fact q = hlevel props
+
+-- and so is that the limit is in range
+one_range : (n : ℕ) (k l : (1 ≤ n) × (n ≤ most_steps)) → k ≡ l
+one_range n = hlevel props
+
+pub same_settings : (s u : Settings) → s.seed ≡ u.seed → s.horizon ≡ u.horizon → s.limit ≡ u.limit → s ≡ u
+same_settings s u seed horizon limit = by s.seed s.horizon s.limit seed horizon limit s.positive s.in_range
+  where
+    by : (m : ℕ) (q : Rational) (n : ℕ) → m ≡ u.seed → q ≡ u.horizon → n ≡ u.limit → (k : IsTrue (is_positive q)) (l : (1 ≤ n) × (n ≤ most_steps)) →
+        record { seed = m; horizon = q; limit = n; positive = k; in_range = l } ≡ u
+    by m q n is_seed is_horizon is_limit =
+        let Same : ℕ → Rational → ℕ → Type 0 =
+        λ m q n. (k : IsTrue (is_positive q)) (l : (1 ≤ n) × (n ≤ most_steps)) → record { seed = m; horizon = q; limit = n; positive = k; in_range = l } ≡ u in
+        let here : Same u.seed u.horizon u.limit =
+        λ k l.
+        ap (λ k. record { seed = u.seed; horizon = u.horizon; limit = u.limit; positive = k; in_range = l }) (one_fact u.horizon k u.positive)
+        ∙ ap (λ l. record { seed = u.seed; horizon = u.horizon; limit = u.limit; positive = u.positive; in_range = l }) (one_range u.limit l u.in_range) in
+        subst (λ m. Same m q n) (sym is_seed) (subst (λ q. Same u.seed q n) (sym is_horizon) (subst (λ n. Same u.seed u.horizon n) (sym is_limit) here))
 
 one_simulation : (g : Given) (s u : Settings) → AreSettings g s → AreSettings g u → s ≡ u
 one_simulation g s u x y =
-    ap (λ n. settings n s.horizon s.limit) (one_value _ s.seed u.seed x.seed y.seed)
-    ∙ ap (λ q. settings u.seed q s.limit) (one_horizon g.horizon s.horizon u.horizon x.horizon y.horizon)
-    ∙ ap (λ n. settings u.seed u.horizon n) (one_value _ s.limit u.limit x.limit y.limit)
+    same_settings s u (one_value _ s.seed u.seed x.seed y.seed)
+    (one_horizon g.horizon s.horizon u.horizon x.horizon y.horizon)
+    (one_value _ s.limit u.limit x.limit y.limit)
 
-apart : (a b : Text) → bytes_eq a a ≡ true → bytes_eq b a ≡ false → a ≡ b → ⊥
-apart a b same other e =
-    let both : true ≡ false = sym same ∙ ap (λ w. bytes_eq w a) e ∙ other in
-    cc both
-
-not_print : codes "check" ≡ codes "print" → ⊥
-not_print e = apart (codes "check") (codes "print") refl refl e
-
-not_simulate : codes "check" ≡ codes "simulate" → ⊥
-not_simulate e = apart (codes "check") (codes "simulate") refl refl e
-
-print_not_simulate : codes "print" ≡ codes "simulate" → ⊥
-print_not_simulate e = apart (codes "print") (codes "simulate") refl refl e
-
-one_asked : (action : Text) (g : Given) (r s : Request) → AskFor action g r → AskFor action g s → r ≡ s
-one_asked action g Check Check x y = refl
-one_asked action g Check Print x y = absurd (not_print (sym x.0 ∙ y.0))
-one_asked action g Check (Simulate s) x y = absurd (not_simulate (sym x.0 ∙ y.0))
-one_asked action g Print Check x y = absurd (not_print (sym y.0 ∙ x.0))
-one_asked action g Print Print x y = refl
-one_asked action g Print (Simulate s) x y = absurd (print_not_simulate (sym x.0 ∙ y.0))
-one_asked action g (Simulate s) Check x y = absurd (not_simulate (sym y.0 ∙ x.0))
-one_asked action g (Simulate s) Print x y = absurd (print_not_simulate (sym y.0 ∙ x.0))
-one_asked action g (Simulate s) (Simulate u) x y = ap Simulate (one_simulation g s u x.1 y.1)
+one_asked : (action : Action) (g : Given) (r s : Request) → Asks action g r → Asks action g s → r ≡ s
+one_asked act.Check g r s x y = x ∙ sym y
+one_asked act.Print g r s x y = x ∙ sym y
+one_asked act.Simulate g r s x y = x.2 ∙ ap Simulate (one_simulation g x.0 y.0 x.1 y.1) ∙ sym y.2
 
 pub one_request : (words : List Text) (r s : Request) → Ask words r → Ask words s → r ≡ s
 one_request words r s x y =
-    let same : x.action ≡ y.action = one_value _ x.action y.action x.named y.named in
-    one_asked y.action (given words) r s (subst (λ action. AskFor action (given words) r) same x.asked) y.asked
+    let name = one_value (slice_get words 1) (name_of_action x.action) (name_of_action y.action) x.named y.named in
+    let same : x.action ≡ y.action = one_action x.action y.action name in
+    one_asked y.action (given words) r s (subst (λ action. Asks action (given words) r) same x.asked) y.asked

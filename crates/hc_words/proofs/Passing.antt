@@ -5,15 +5,17 @@ use Rattle.std.specs.List.{list_all}
 use Rattle.std.proofs.lemmas.Bool.{and_from}
 use Rattle.std.proofs.lemmas.List.{append-nil}
 use Rattle.clap.specs.Walk.{Held, Row, Step, Text, Walk, idle, value, after_step, finished, nothing_held, walk, walk_from, walked}
+use Rattle.clap.specs.Faults.{built_fault, check_fault, fault_of, level_fault}
 use Rattle.clap.specs.Simple.{argument_words, built}
 use Rattle.clap.specs.Takes.{built_takes, default_passes, is_valid, level_passes, settle_passes, step_passes, takes, turn_passes, walk_passes}
 use Rattle.clap.proofs.OnLiterals.{clap_on_literals}
 use Rattle.clap.proofs.TakesLemmas.{leaf_takes}
-use Rattle.hc_words.specs.Line.{hcsp}
+use Rattle.hc_words.specs.Line.{hcsp, is_nothing, is_taken}
 use Rattle.hc_words.proofs.Command.{is_simple_hcsp}
 use Rattle.hc_words.proofs.Uses.{row_for}
 use Rattle.hc_words.proofs.Steps.{Reached, standing, plain_met, plain_passes}
 use Rattle.hc_words.proofs.Choices.{Leads, passes_on}
+use Rattle.hc_words.proofs.NoFault.{leaf_none, level_none}
 use Rattle.hc_words.proofs.Options.{shape}
 
 -- ---- the action
@@ -98,3 +100,21 @@ pub led_taken : (name : Text) (x : ℕ) (v : Text) (words : List Text) (rows : L
 led_taken name x v words rows e led =
     taken_by_level name ((x ∷ v) ∷ words)
     (level ((x ∷ v) ∷ words) led.place 2 (all_walked x v words rows e led) (all_passes x v words rows e led) led.reached.settles)
+
+-- ---- and finds nothing against them
+
+nothing_required : (rows : List Row) → check_fault shape rows false ≡ []
+unfolding shape hcsp clap_on_literals
+nothing_required rows = refl
+
+free_by_level : (name : Text) (words : List Text) → level_fault shape [] nothing_held words false [] ≡ [] → fault_of hcsp (name ∷ words) ≡ []
+unfolding shape
+free_by_level name words free = ap (built_fault (built hcsp) nothing_held) (behind_name name words) ∙ leaf_none (built hcsp) words no_subs free
+
+pub led_free : (name : Text) (x : ℕ) (v : Text) (words : List Text) (rows : List Row) → (x == 45) ≡ false → Leads shape (acting (x ∷ v)) 2 words rows →
+    is_taken (name ∷ (x ∷ v) ∷ words) ≡ true
+led_free name x v words rows e led =
+    let walks = all_walked x v words rows e led in
+    let settles = ap (λ (w : Walk). settle_passes shape.rules shape.args_override_self w.held) walks ∙ led.reached.settles in
+    ap is_nothing (free_by_level name ((x ∷ v) ∷ words)
+    (level_none shape ((x ∷ v) ∷ words) (all_passes x v words rows e led) settles defaults_pass nothing_required))

@@ -7,6 +7,7 @@ use Rattle.std.specs.List.{list_all}
 use Rattle.std.specs.Str.Parse.{digits_value}
 use Rattle.std.proofs.lemmas.Bool.{and_parts}
 use Rattle.std.proofs.lemmas.Fmt.{first_decimal}
+use Rattle.hc_limits.specs.Limits.{most_steps}
 use Rattle.clap.specs.Walk.{Text}
 use Rattle.hc_rational.specs.Words.{Rational, is_positive, IsFrac}
 use Rattle.hc_rational.proofs.FitsLaws.{num_fits}
@@ -78,4 +79,4 @@ fraction_plain t q (of_decimal d is e) positive = decimal_plain t is.number is.e
 pub right_plain : (k : Setting) (t : Text) → IsRight k t → BeginsPlain t
 right_plain seed t h = number_plain 0 18446744073709551615 h.0 t h.1
 right_plain horizon t h = fraction_plain t h.0 h.1 h.2
-right_plain limit t h = number_plain 1 1000000 h.0 t h.1
+right_plain limit t h = number_plain 1 most_steps h.0 t h.1

@@ -12,7 +12,9 @@ use Rattle.clap.specs.Walk.{Held, Row, Rule, Text, Walk, default_rows, finished,
 use Rattle.clap.specs.Simple.{built, filled, matches_of, names_of}
 use Rattle.clap.proofs.OnLiterals.{clap_on_literals}
 use Rattle.hc_words.specs.Line.{hcsp, flag_rule}
-use Rattle.hc_words.specs.Order.{Setting, seed, horizon, limit, name_of, Choice, IsRight}
+use Rattle.hc_words.specs.declared.actions.Room.{Room}
+use Rattle.hc_words.specs.Actions.{allows}
+use Rattle.hc_words.specs.Order.{Setting, seed, horizon, limit, name_of, Choice, IsRight, has, said}
 use Rattle.hc_words.proofs.Uses.{row_for, first_values}
 use Rattle.hc_words.proofs.Steps.{Reached}
 use Rattle.hc_words.proofs.Choices.{Leads, row_of_choice}
@@ -107,29 +109,64 @@ pub passed_over : (id : Text) → ((k : Setting) → bytes_eq (name_of k) id ≡
 passed_over id other [] tail = refl
 passed_over id other (c ∷ cs) tail = rw (other c.setting) (passed_over id other cs tail)
 
--- a value that is found is right
+-- the value of an option that is found is the one that is said
+pub first_said : (k : Setting) (cs : List Choice) (tail : List Row) → first_of (name_of k) tail ≡ None →
+    first_of (name_of k) (map row_of_choice cs ++ tail) ≡ said k cs
+first_said k [] tail none = none
+first_said k (c ∷ cs) tail none = go k c.setting c.value (map row_of_choice cs ++ tail) (said k cs) (first_said k cs tail none)
+  where
+    go : (k j : Setting) (v : Text) (rest : List Row) (more : Option Text) → first_of (name_of k) rest ≡ more →
+        first_of (name_of k) (row_for (name_of j) v ∷ rest) ≡ (if bytes_eq (name_of j) (name_of k) then Some v else more)
+    go seed seed v rest more e = refl
+    go seed horizon v rest more e = e
+    go seed limit v rest more e = e
+    go horizon seed v rest more e = e
+    go horizon horizon v rest more e = refl
+    go horizon limit v rest more e = e
+    go limit seed v rest more e = e
+    go limit horizon v rest more e = e
+    go limit limit v rest more e = refl
+
+-- a value that is said is right
 abbrev pub IsRightIn : Setting → Option Text → Type 0
 IsRightIn k None = Unit {0}
 IsRightIn k (Some t) = IsRight k t
 
-one_right : (k j : Setting) (v : Text) (rest : List Row) → IsRight j v → IsRightIn k (first_of (name_of k) rest) →
-    IsRightIn k (first_of (name_of k) (row_for (name_of j) v ∷ rest))
-one_right seed seed v rest right found = right
-one_right seed horizon v rest right found = found
-one_right seed limit v rest right found = found
-one_right horizon seed v rest right found = found
-one_right horizon horizon v rest right found = right
-one_right horizon limit v rest right found = found
-one_right limit seed v rest right found = found
-one_right limit horizon v rest right found = found
-one_right limit limit v rest right found = right
+pub said_right : (k : Setting) (cs : List Choice) → All (λ c. IsRight c.setting c.value) cs → IsRightIn k (said k cs)
+said_right k [] right = tt
+said_right k (c ∷ cs) right =
+    go k c.setting c.value (said k cs) (All-head (λ (d : Choice). IsRight d.setting d.value) c cs right)
+    (said_right k cs (All-tail (λ (d : Choice). IsRight d.setting d.value) c cs right))
+  where
+    go : (k j : Setting) (v : Text) (more : Option Text) → IsRight j v → IsRightIn k more → IsRightIn k (if bytes_eq (name_of j) (name_of k) then Some v else more)
+    go seed seed v more right rest = right
+    go seed horizon v more right rest = rest
+    go seed limit v more right rest = rest
+    go horizon seed v more right rest = rest
+    go horizon horizon v more right rest = right
+    go horizon limit v more right rest = rest
+    go limit seed v more right rest = rest
+    go limit horizon v more right rest = rest
+    go limit limit v more right rest = right
 
-pub all_right : (k : Setting) (cs : List Choice) (tail : List Row) → All (λ c. IsRight c.setting c.value) cs → first_of (name_of k) tail ≡ None →
-    IsRightIn k (first_of (name_of k) (map row_of_choice cs ++ tail))
-all_right k [] tail right none = subst (IsRightIn k) (sym none) tt
-all_right k (c ∷ cs) tail right none =
-    one_right k c.setting c.value (map row_of_choice cs ++ tail) (All-head (λ (d : Choice). IsRight d.setting d.value) c cs right)
-    (all_right k cs tail (All-tail (λ (d : Choice). IsRight d.setting d.value) c cs right) none)
+-- what is said has room
+pub said_allowed : (room : Room) (k : Setting) (cs : List Choice) → list_all (λ c. has room c.setting) cs ≡ true → allows (has room k) (said k cs) ≡ true
+said_allowed room k [] belong = refl
+said_allowed room k (c ∷ cs) belong =
+    let both = and_parts (has room c.setting) (list_all (λ (d : Choice). has room d.setting) cs) belong in
+    go k c.setting c.value (said k cs) both.0 (said_allowed room k cs both.1)
+  where
+    go : (k j : Setting) (v : Text) (more : Option Text) → has room j ≡ true → allows (has room k) more ≡ true →
+        allows (has room k) (if bytes_eq (name_of j) (name_of k) then Some v else more) ≡ true
+    go seed seed v more e rest = e
+    go seed horizon v more e rest = rest
+    go seed limit v more e rest = rest
+    go horizon seed v more e rest = rest
+    go horizon horizon v more e rest = e
+    go horizon limit v more e rest = rest
+    go limit seed v more e rest = rest
+    go limit horizon v more e rest = rest
+    go limit limit v more e rest = e
 
 pub not_report : (k : Setting) → bytes_eq (name_of k) (codes "report") ≡ false
 not_report seed = refl

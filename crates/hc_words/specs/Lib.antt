@@ -1,4 +1,5 @@
 pub mod Line
+pub mod Actions
 pub mod Numbers
 pub mod Requests
 pub mod Seen

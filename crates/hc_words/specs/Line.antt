@@ -1,5 +1,7 @@
 -- The command line, as a simple command of `clap`.
 use Rattle.std.specs.Prelude.{Bool, true, false, List, [], ◌∷◌, Option, Some, codes}
+use Rattle.std.specs.Option.{option_map_or}
+use Rattle.std.specs.Str.{bytes_eq}
 use Rattle.clap.specs.declared.builder.action.ArgAction.TheVariants.{SetTrue}
 use Rattle.clap.specs.Walk.{Text, Rule, Row, first_of}
 use Rattle.clap.specs.Simple.{App, new_app, new_rule, with_rule, matches_of}
@@ -35,7 +37,7 @@ is_nothing (k ∷ ks) = false
 abbrev pub is_taken : List Text → Bool
 is_taken words = is_nothing (fault_of hcsp words)
 
--- what stands behind the action: N, the value of each option, and the flag
+-- what stands behind the action: N, the value of each option, and whether the flag is given
 pub record Given : Type 0 where
   pub number : Option Text
   pub seed : Option Text
@@ -43,7 +45,11 @@ pub record Given : Type 0 where
   pub limit : Option Text
   pub workers : Option Text
   pub steps : Option Text
-  pub reports : Option Text
+  pub report : Bool
+
+-- the flag is given
+abbrev pub is_yes : Option Text → Bool
+is_yes flag = option_map_or (λ t. bytes_eq t (codes "true")) flag false
 
 abbrev pub given_in : List Row → Given
 given_in rows = record {
@@ -53,7 +59,7 @@ given_in rows = record {
   limit = first_of (codes "limit") rows;
   workers = first_of (codes "workers") rows;
   steps = first_of (codes "steps") rows;
-  reports = first_of (codes "report") rows;
+  report = is_yes (first_of (codes "report") rows);
 }
 
 -- what the words give, where clap takes them

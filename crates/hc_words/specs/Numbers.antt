@@ -3,6 +3,7 @@ use Rattle.std.specs.Prelude.{◌≡◌, ◌≤◌, ◌^◌, ℕ, Bool, ◌&&◌
 use Rattle.std.specs.List.{list_all}
 use Rattle.std.specs.Char.{is_ascii_digit}
 use Rattle.std.specs.Str.Parse.{digits_value}
+use Rattle.hc_limits.specs.Limits.{most_source_bytes}
 use Rattle.hc_rational.specs.Words.{Rational}
 use Rattle.hc_frac.specs.Words.{IsFrac, quotient}
 use Rattle.hc_frac.specs.Text.{text_of}
@@ -27,7 +28,7 @@ in_decimal b = is_ascii_digit b || b == 46
 -- the text is exactly this number of the source language: digits, and points among them, and beside its end one token;
 -- like a source it has at most 1,048,576 bytes
 pub record IsDecimalText (t : List ℕ) (d : Decimal) : Type 0 where
-  pub short : length t ≤ 1048576
+  pub short : length t ≤ most_source_bytes
   pub plain : IsTrue (list_all in_decimal t)
   pub number : Token
   pub end : Token

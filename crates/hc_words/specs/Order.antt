@@ -1,9 +1,14 @@
 -- Words in order: an action, and behind it options of its own.
-use Rattle.std.specs.Prelude.{◌≡◌, ◌⊎◌, ℕ, Bool, true, not, ◌&&◌, List, [], ◌∷◌, ◌++◌, flat_map, Some, codes, IsTrue, if◌then◌else◌}
+use Rattle.std.specs.Prelude.{◌≡◌, ℕ, Bool, true, false, not, ◌&&◌, List, [], ◌∷◌, ◌++◌, flat_map, Option, Some, None, codes, IsTrue, if◌then◌else◌}
 use Rattle.std.specs.List.{All, list_all}
 use Rattle.std.specs.Str.{bytes_eq}
+use Rattle.hc_limits.specs.Limits.{most_steps}
 use Rattle.clap.specs.Walk.{Text}
 use Rattle.hc_rational.specs.Words.{Rational, is_positive}
+use Rattle.hc_words.specs.declared.actions.Action.{Action}
+use Rattle.hc_words.specs.declared.actions.Room.{Room}
+use Rattle.hc_words.specs.Actions.{name_of_action, room_of}
+use Rattle.hc_words.specs.Line.{Given}
 use Rattle.hc_words.specs.Numbers.{number_within, IsFractionText}
 
 -- an option of a simulation
@@ -32,7 +37,7 @@ words_of c =
 abbrev pub IsRight : Setting → Text → Type 0
 IsRight seed t = (n : ℕ) × (number_within 0 18446744073709551615 t ≡ Some n)
 IsRight horizon t = (q : Rational) × IsFractionText t q × IsTrue (is_positive q)
-IsRight limit t = (n : ℕ) × (number_within 1 1000000 t ≡ Some n)
+IsRight limit t = (n : ℕ) × (number_within 1 most_steps t ≡ Some n)
 
 abbrev pub is_other : Choice → Choice → Bool
 is_other c d = not (bytes_eq (name_of c.setting) (name_of d.setting))
@@ -42,8 +47,35 @@ abbrev pub are_apart : List Choice → Bool
 are_apart [] = true
 are_apart (c ∷ cs) = list_all (is_other c) cs && are_apart cs
 
--- the program's name, and an action with what belongs to it, in any order
-pub data AreInOrder (words : List Text) : Type 0 where
-  bare : (name action : Text) → (action ≡ codes "check") ⊎ (action ≡ codes "print") → words ≡ name ∷ action ∷ [] → AreInOrder words
-  simulation : (name : Text) (choices : List Choice) → IsTrue (are_apart choices) → All (λ c. IsRight c.setting c.value) choices →
-      words ≡ name ∷ codes "simulate" ∷ flat_map words_of choices → AreInOrder words
+-- the action has room for the option
+abbrev pub has : Room → Setting → Bool
+has room seed = room.seed
+has room horizon = room.horizon
+has room limit = room.limit
+
+-- the program's name, an action, and options that belong to it, in any order, each at most once, with values that are right
+pub record AreInOrder (words : List Text) : Type 0 where
+  pub name : Text
+  pub action : Action
+  pub choices : List Choice
+  pub apart : IsTrue (are_apart choices)
+  pub belong : IsTrue (list_all (λ c. has (room_of action) c.setting) choices)
+  pub right : All (λ c. IsRight c.setting c.value) choices
+  pub words_are : words ≡ name ∷ name_of_action action ∷ flat_map words_of choices
+
+-- the value of an option, where it's chosen
+abbrev pub said : Setting → List Choice → Option Text
+said k [] = None
+said k (c ∷ cs) = if bytes_eq (name_of c.setting) (name_of k) then Some c.value else said k cs
+
+-- what the choices give
+abbrev pub given_by : List Choice → Given
+given_by cs = record {
+  number = None;
+  seed = said seed cs;
+  horizon = said horizon cs;
+  limit = said limit cs;
+  workers = None;
+  steps = None;
+  report = false;
+}

@@ -1,5 +1,10 @@
 -- What the program reads of the words, as texts.
-use Rattle.std.specs.Prelude.{option_map}
+use Rattle.std.specs.Prelude.{◌≡◌, option_map, IsTrue}
+use Rattle.clap.specs.Walk.{Text}
+use Rattle.hc_words.specs.declared.actions.Action.{Action}
+use Rattle.hc_words.specs.declared.requests.Request.{Request}
+use Rattle.hc_words.specs.Actions.{name_of_action, belongs}
+use Rattle.hc_words.specs.Requests.{Asks}
 use Rattle.hc_words.specs.declared.line.Given as program
 use Rattle.hc_words.specs.Line.{Given}
 
@@ -11,5 +16,12 @@ seen g = record {
   limit = option_map (λ s. s.now) g.limit;
   workers = option_map (λ s. s.now) g.workers;
   steps = option_map (λ s. s.now) g.steps;
-  reports = option_map (λ s. s.now) g.reports;
+  report = g.report;
 }
+
+-- an action of this name asks for the request, and all that is given belongs to it
+pub record IsRequested (name : Text) (g : Given) (request : Request) : Type 0 where
+  pub action : Action
+  pub named : name_of_action action ≡ name
+  pub belonging : IsTrue (belongs action g)
+  pub asked : Asks action g request

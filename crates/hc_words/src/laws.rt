@@ -1,8 +1,9 @@
 //! Laws of the definitions.
 
-ghost use Rattle.hc_words.specs.Laws.{OneRequest};
+ghost use Rattle.hc_words.specs.Laws.{InOrderAsk, OneRequest};
 
-/// What holds of the words of every call. There is nothing to run: the clause is the law.
+/// What holds of the words of every call. There is nothing to run: the clauses are the laws.
 pub fn calls()
     ensures one_request { OneRequest }
+    ensures in_order { InOrderAsk }
 {}

@@ -4,7 +4,6 @@ ghost use Rattle.std.specs.Prelude.{◌≡◌, false, length, map, IfOk, IsErrOf
 ghost use Rattle.std.specs.String.{string_bytes};
 ghost use Rattle.clap.specs.Matches.{found_of};
 ghost use Rattle.clap.specs.Simple.{app_of};
-ghost use Rattle.clap.specs.Takes.{takes};
 ghost use Rattle.clap.specs.Walk.{rule_of, rows_of};
 ghost use Rattle.hc_words.specs.Line as spec;
 ghost use Rattle.hc_words.specs.Seen.{seen};
@@ -23,7 +22,7 @@ pub(crate) struct Given<'a> {
     pub(crate) limit: Option<&'a str>,
     pub(crate) workers: Option<&'a str>,
     pub(crate) steps: Option<&'a str>,
-    pub(crate) reports: Option<&'a str>,
+    pub(crate) report: bool,
 }
 
 /// A word by its place.
@@ -64,6 +63,15 @@ fn command<'a>(alloc: Global) -> Result<Command<'a>, AllocError>
         .arg(flag_arg(alloc, "report"))
 }
 
+fn is_yes(flag: Option<&str>) -> bool
+    ensures { result ≡ spec.is_yes (option_map (λ s. s.now) flag.entry) }
+{
+    match flag {
+        Some(text) => text == "true",
+        None => false,
+    }
+}
+
 fn given_of<'a>(matches: &ArgMatches<'a>) -> Given<'a>
     ensures { seen result ≡ spec.given_in (rows_of (found_of matches.now)) }
 {
@@ -74,7 +82,7 @@ fn given_of<'a>(matches: &ArgMatches<'a>) -> Given<'a>
         limit: matches.get_str("limit"),
         workers: matches.get_str("workers"),
         steps: matches.get_str("steps"),
-        reports: matches.get_str("report"),
+        report: is_yes(matches.get_str("report")),
     }
 }
 
@@ -83,7 +91,6 @@ pub(crate) fn read_words<'a>(alloc: Global, words: &'a Vec<String>) -> Result<Gi
     ensures taken { IfOk result (λ _. IsTrue (spec.is_taken (map string_bytes words.now.items))) }
     ensures given { IfOk result (λ given. seen given ≡ spec.given (map string_bytes words.now.items)) }
     ensures refused { IsErrOf result WordsStop.Usage → IsTrue (spec.is_taken (map string_bytes words.now.items)) → ⊥ }
-    ensures passes { IsErrOf result WordsStop.Usage → IsTrue (takes spec.hcsp (map string_bytes words.now.items)) → ⊥ }
 {
     let command = match command(alloc) {
         Ok(command) => command,

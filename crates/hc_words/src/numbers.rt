@@ -9,13 +9,11 @@ ghost use Rattle.hc_frac.specs.declared.decimal.Decimal as number;
 ghost use Rattle.hc_words.specs.Numbers as spec;
 
 use hc_frac::{Decimal, Frac};
+use hc_limits::MOST_SOURCE_BYTES;
 use hc_token::{Content, Kind, Scanner};
 
 /// The most digits of a whole number.
 const MOST_DIGITS: usize = 20;
-
-/// The most bytes of a decimal: those of a source.
-const LONGEST_DECIMAL: usize = 1_048_576;
 
 fn are_digits(text: &[u8]) -> bool
     ensures { result ≡ list_all is_ascii_digit text.now }
@@ -58,7 +56,7 @@ fn decimal_of(text: &[u8]) -> Option<Decimal>
     ensures every { (d : number.Decimal) → spec.IsDecimalText text.now d → result ≡ Some d }
     ensures only { IfSome result (spec.IsDecimalText text.now) }
 {
-    if text.len() > LONGEST_DECIMAL || !are_in_decimal(text) {
+    if text.len() > MOST_SOURCE_BYTES || !are_in_decimal(text) {
         return None;
     }
     let mut tokens = Scanner::new(text);

@@ -4,34 +4,23 @@ ghost use Rattle.std.specs.Prelude.{◌≡◌, pos, None, map, IfOk, IfSome, IsE
 ghost use Rattle.std.specs.String.{string_bytes};
 ghost use Rattle.hc_rational.specs.Rational.{whole};
 ghost use Rattle.hc_rational.specs.Words.{Rational};
-ghost use Rattle.hc_words.specs.Order.{AreInOrder};
 ghost use Rattle.hc_words.specs.Requests as spec;
-ghost use Rattle.hc_words.specs.Seen.{seen};
+ghost use Rattle.hc_words.specs.Seen.{seen, IsRequested};
 ghost use Rattle.hc_words.specs.declared.requests.Request as asked;
-ghost use Rattle.hc_words.specs.declared.requests.Settings as set;
+ghost use Rattle.hc_words.specs.declared.settings.Settings as set;
 
+use crate::actions::{Action, action_named, belongs};
 use crate::line::{Given, read_words};
 use crate::numbers::{number_within, positive_fraction};
+use crate::settings::Settings;
 use hc_frac::Frac;
+use hc_limits::MOST_STEPS;
 use std::alloc::Global;
 
 /// The horizon, in time units, where the words give none.
 const HORIZON: i64 = 100;
 /// The number of steps to which a run is limited, where the words give none.
 const LIMIT: u32 = 10_000;
-/// The most steps to which a run may be limited.
-const MOST_STEPS: u64 = 1_000_000;
-
-/// The settings of a simulation.
-#[derive(Clone, Copy, Debug, PartialEq, Eq)]
-pub struct Settings {
-    /// Its bits decide the internal choices.
-    pub seed: u64,
-    /// In time units, positive.
-    pub horizon: Frac,
-    /// Steps, 1 to 1,000,000.
-    pub limit: u32,
-}
 
 /// What the words ask for.
 #[derive(Clone, Copy, Debug, PartialEq, Eq)]
@@ -56,60 +45,40 @@ pub enum WordsStop {
 /// What these words ask for, of which the first is the program's name.
 pub fn asked_for(alloc: Global, words: &Vec<String>) -> Result<Request, WordsStop>
     ensures asked { IfOk result (spec.Ask (map string_bytes words.now.items)) }
-    ensures proper { IfOk result spec.MayRun }
     ensures usage { IsErrOf result WordsStop.Usage → (r : asked.Request) → spec.Ask (map string_bytes words.now.items) r → ⊥ }
-    ensures in_order { IsErrOf result WordsStop.Usage → AreInOrder (map string_bytes words.now.items) → ⊥ }
 {
     let given = read_words(alloc, words)?;
     match words.as_slice() {
-        [_, action, ..] => match request_by(action.as_str(), &given) {
-            Some(request) => Ok(request),
-            None => Err(WordsStop::Usage),
-        },
+        [_, name, ..] => requested(name.as_str(), &given).ok_or(WordsStop::Usage),
         _ => Err(WordsStop::Usage),
     }
 }
 
-/// What an action asks for, with what stands behind it.
-fn request_by(action: &str, given: &Given<'_>) -> Option<Request>
-    ensures some { IfSome result (spec.AskFor action.now (seen given.now)) }
-    ensures none { result ≡ None → (r : asked.Request) → spec.AskFor action.now (seen given.now) r → ⊥ }
+/// What the action of this name asks for, with what stands behind it.
+fn requested(name: &str, given: &Given<'_>) -> Option<Request>
+    ensures some { IfSome result (IsRequested name.now (seen given.now)) }
+    ensures none { result ≡ None → (r : asked.Request) → IsRequested name.now (seen given.now) r → ⊥ }
 {
-    if action == "check" && is_bare(given) {
-        return Some(Request::Check);
+    let action = action_named(name)?;
+    if !belongs(action, given) {
+        return None;
     }
-    if action == "print" && is_bare(given) {
-        return Some(Request::Print);
-    }
-    if action == "simulate" {
-        let settings = settings_of(given)?;
-        return Some(Request::Simulate(settings));
-    }
-    None
+    request_by(action, given)
 }
 
-fn is_silent(flag: Option<&str>) -> bool
-    ensures { result ≡ spec.is_silent (option_map (λ s. s.now) flag.entry) }
+/// What an action asks for, by the values that stand behind it.
+fn request_by(action: Action, given: &Given<'_>) -> Option<Request>
+    ensures some { IfSome result (spec.Asks action (seen given.now)) }
+    ensures none { result ≡ None → (r : asked.Request) → spec.Asks action (seen given.now) r → ⊥ }
 {
-    match flag {
-        Some(text) => text != "true",
-        None => true,
+    match action {
+        Action::Check => Some(Request::Check),
+        Action::Print => Some(Request::Print),
+        Action::Simulate => {
+            let settings = settings_of(given)?;
+            Some(Request::Simulate(settings))
+        }
     }
-}
-
-fn is_plain(given: &Given<'_>) -> bool
-    ensures { result ≡ spec.is_plain (seen given.now) }
-{
-    given.number.is_none()
-        && given.workers.is_none()
-        && given.steps.is_none()
-        && is_silent(given.reports)
-}
-
-fn is_bare(given: &Given<'_>) -> bool
-    ensures { result ≡ spec.is_bare (seen given.now) }
-{
-    is_plain(given) && given.seed.is_none() && given.horizon.is_none() && given.limit.is_none()
 }
 
 /// The settings that are given, each where it isn't its own default.
@@ -117,9 +86,6 @@ fn settings_of(given: &Given<'_>) -> Option<Settings>
     ensures some { IfSome result (spec.AreSettings (seen given.now)) }
     ensures none { result ≡ None → (s : set.Settings) → spec.AreSettings (seen given.now) s → ⊥ }
 {
-    if !is_plain(given) {
-        return None;
-    }
     let seed = seed_of(given.seed)?;
     let horizon = horizon_of(given.horizon)?;
     let limit = limit_of(given.limit)?;

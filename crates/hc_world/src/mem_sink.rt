@@ -63,9 +63,7 @@ impl MemSink {
 }
 
 impl Sink for MemSink {
-    ghost told = { λ s. Some s.written };
-
-    ghost faults = { λ s. s.calls.faults };
+    ghost state = { λ s. record { told = Some s.written; faults = s.calls.faults } };
 
     fn write(&mut self, piece: &[u8]) -> Result<usize, Failed>
         requires { 0 < length piece.now }

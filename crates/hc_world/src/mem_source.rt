@@ -52,11 +52,7 @@ impl MemSource {
 }
 
 impl Source for MemSource {
-    ghost left = { λ s. Some s.left };
-
-    ghost faults = { λ s. s.calls.faults };
-
-    ghost calls = { λ s. s.calls.count };
+    ghost state = { λ s. record { left = Some s.left; faults = s.calls.faults; calls = s.calls.count } };
 
     fn read(&mut self, buffer: &mut [u8]) -> Result<usize, Failed>
         requires { 0 < length buffer.old }

@@ -1,32 +1,27 @@
 //! Where bytes come from.
-ghost use Rattle.std.specs.Prelude.{◌≡◌, ℕ, ◌+◌, ◌<◌, ◌≤◌, List, Option, length, vec_len, IfOk, IsErrOf};
+ghost use Rattle.std.specs.Prelude.{◌≡◌, ◌+◌, ◌<◌, ◌≤◌, length, vec_len, IfOk, IsErrOf};
 ghost use Rattle.std.specs.Io.{ReadsAtMost};
 ghost use Rattle.std.specs.Io.KnownBytes.{ReadConsumes};
 ghost use Rattle.hc_world.specs.Counts.{HasCause, Rose};
 ghost use Rattle.hc_world.specs.Reading.{ReadsAll, ReadsPast, ReadsWithin};
+ghost use Rattle.hc_world.specs.States.{SourceState};
 
 use crate::faults::Failed;
 use std::alloc::{AllocError, Global};
 
 /// Something that gives bytes, and counts its faults.
 pub trait Source {
-    // the bytes that are left, where they are told
-    ghost left: { Self → Option (List ℕ) };
-
-    // how many reads failed
-    ghost faults: { Self → ℕ };
-
-    // how many reads there were, at a source that counts them
-    ghost calls: { Self → ℕ };
+    // the bytes that are left, where they are told, and its counts of faults and of reads
+    ghost state: { Self → SourceState };
 
     /// Puts the next bytes at the front of `buffer`, and answers how many: 0 only at the end.
     /// A read that fails takes nothing.
     fn read(&mut self, buffer: &mut [u8]) -> Result<usize, Failed>
         requires { 0 < length buffer.old }
         ensures bound { ReadsAtMost result buffer.new }
-        ensures bytes { ReadConsumes (left self.old) (left self.new) result buffer.new }
-        ensures cause { HasCause (faults self.old) (faults self.new) result }
-        ensures call { calls self.new ≤ calls self.old + 1 };
+        ensures bytes { ReadConsumes (state self.old).left (state self.new).left result buffer.new }
+        ensures cause { HasCause (state self.old).faults (state self.new).faults result }
+        ensures call { (state self.new).calls ≤ (state self.old).calls + 1 };
 }
 
 /// Why a source was not read to its end.
@@ -64,19 +59,19 @@ impl From<AllocError> for ReadStop {
 /// Where memory runs out, some bytes were read and are lost.
 pub fn read_all<S: Source>(alloc: Global, source: &mut S, most: usize) -> Result<Vec<u8>, ReadStop>
     ensures all { IfOk result (λ bytes.
-        ReadsAll (S.left source.old) (S.left source.new) bytes.items) }
+        ReadsAll (S.state source.old).left (S.state source.new).left bytes.items) }
     ensures fits { IfOk result (λ bytes. vec_len bytes ≤ most) }
     ensures long { IsErrOf result ReadStop.TooLong →
-        ReadsPast (S.left source.old) (S.left source.new) most }
+        ReadsPast (S.state source.old).left (S.state source.new).left most }
 
     // Once more than `most` bytes came, no later fault is answered.
     ensures failed { IsErrOf result ReadStop.Failed →
-        Rose (S.faults source.old) (S.faults source.new) }
+        Rose (S.state source.old).faults (S.state source.new).faults }
     ensures before_fault { IsErrOf result ReadStop.Failed →
-        ReadsWithin (S.left source.old) (S.left source.new) most }
+        ReadsWithin (S.state source.old).left (S.state source.new).left most }
     ensures kept { ¬ IsErrOf result ReadStop.Failed →
-        S.faults source.new ≡ S.faults source.old }
-    ensures reads { S.calls source.new ≤ S.calls source.old + (most + 2) }
+        (S.state source.new).faults ≡ (S.state source.old).faults }
+    ensures reads { (S.state source.new).calls ≤ (S.state source.old).calls + (most + 2) }
 {
     let mut bytes = Vec::new(alloc);
     let mut buffer = [0; 4096];

@@ -19,19 +19,14 @@ pub struct StdSource<R> {
 
 impl<R: Read> StdSource<R> {
     pub fn over(reader: R) -> StdSource<R>
-        ensures same { ⟦<StdSource<R> as Source>⟧.left result ≡ R.remaining reader }
-        ensures fresh { ⟦<StdSource<R> as Source>⟧.faults result ≡ 0 }
+        ensures { ⟦<StdSource<R> as Source>⟧.state result ≡ record { left = R.remaining reader; faults = 0; calls = 0 } }
     {
         StdSource { reader, faults: 0 }
     }
 }
 
 impl<R: Read> Source for StdSource<R> {
-    ghost left = { λ s. R.remaining s.reader };
-
-    ghost faults = { λ s. s.faults };
-
-    ghost calls = { λ _. 0 };
+    ghost state = { λ s. record { left = R.remaining s.reader; faults = s.faults; calls = 0 } };
 
     fn read(&mut self, buffer: &mut [u8]) -> Result<usize, Failed> {
         match self.reader.read(buffer) {
@@ -60,9 +55,7 @@ impl<W: Write> StdOut<W> {
 }
 
 impl<W: Write> Sink for StdOut<W> {
-    ghost told = { λ _. None };
-
-    ghost faults = { out_faults };
+    ghost state = { λ s. record { told = None; faults = out_faults s } };
 
     fn write(&mut self, piece: &[u8]) -> Result<usize, Failed>
         requires { 0 < length piece.now }
@@ -100,9 +93,7 @@ impl<W: Write> StdErr<W> {
 }
 
 impl<W: Write> Sink for StdErr<W> {
-    ghost told = { λ _. None };
-
-    ghost faults = { err_faults };
+    ghost state = { λ s. record { told = None; faults = err_faults s } };
 
     fn write(&mut self, piece: &[u8]) -> Result<usize, Failed>
         requires { 0 < length piece.now }

@@ -1,6 +1,6 @@
 use Rattle.std.proofs.Common.{[], refl, arith}
 use Rattle.std.proofs.lemmas.Result.{err_from_is_err_and}
-use Rattle.hc_reply.proofs.PieceLemmas.{under_way_start, under_way_piece, cut_at_piece, puts_at_end}
+use Rattle.hc_world.proofs.PieceLemmas.{under_way_start, under_way_piece, cut_at_piece, puts_at_end}
 use Rattle.hc_term.specs.TraceText.{end_line, whole}
 use Rattle.hc_trace.proofs.RangeLemmas.{one_in_range}
 use Rattle.hc_history.proofs.TextLemmas.{steps_next, steps_last}
@@ -10,7 +10,7 @@ pub returns-in_err-put_piece : goal.returns-in_err-put_piece
 returns-in_err-put_piece g c =
     let exit = err_from_is_err_and c.from_residual.result c.from_residual.ensures.1 in
     let text = whole c.args.system.now c.args.items.now c.args.clock c.args.stop in
-    rw exit.1 (cut_at_piece _ refl (under_way_start _ _ _ text) c.in_err-put_piece.ensures)
+    rw exit.1 (cut_at_piece _ refl (under_way_start _ _ text) c.in_err-put_piece.ensures)
 
 pub put_line-requires : goal.put_line-requires
 put_line-requires g c =

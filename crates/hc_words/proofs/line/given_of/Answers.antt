@@ -1,6 +1,7 @@
-use Rattle.std.proofs.Common.{◌∙◌, codes}
+use Rattle.std.proofs.Common.{◌∙◌, ap, codes}
 use Rattle.clap.specs.Matches.{found_of}
 use Rattle.clap.proofs.WalkLemmas.{first_value-rows}
+use Rattle.hc_words.specs.Line.{is_yes}
 use Rattle.hc_words.proofs.line.given_of.Goals as goal
 
 pub returns : goal.returns
@@ -12,5 +13,6 @@ returns c =
     let limit = c.get_str-4.ensures ∙ first_value-rows found (codes "limit") in
     let workers = c.get_str-5.ensures ∙ first_value-rows found (codes "workers") in
     let steps = c.get_str-6.ensures ∙ first_value-rows found (codes "steps") in
-    let reports = c.get_str-7.ensures ∙ first_value-rows found (codes "report") in
-    cc (number, seed, horizon, limit, workers, steps, reports)
+    let flag = c.get_str-7.ensures ∙ first_value-rows found (codes "report") in
+    let report = c.is_yes.ensures ∙ ap is_yes flag in
+    cc (number, seed, horizon, limit, workers, steps, report)

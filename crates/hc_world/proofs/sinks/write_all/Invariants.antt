@@ -6,8 +6,8 @@ use Rattle.hc_world.proofs.sinks.write_all.Given as goal
 abbrev pub invariant-loop-at : goal.invariant-loop-at
 invariant-loop-at g l = record {
   within : l.at ≤ length l.bytes;
-  added : Adds (g.K.Sink.told l.initial.sink) (g.K.Sink.told l.sink) (take l.at l.bytes);
-  kept : g.K.Sink.faults l.sink ≡ g.K.Sink.faults l.initial.sink;
+  added : Adds (g.K.Sink.state l.initial.sink).told (g.K.Sink.state l.sink).told (take l.at l.bytes);
+  kept : (g.K.Sink.state l.sink).faults ≡ (g.K.Sink.state l.initial.sink).faults;
   untouched : l.at ≡ 0 → l.sink ≡ l.initial.sink;
 }
 

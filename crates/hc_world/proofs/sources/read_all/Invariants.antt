@@ -7,9 +7,9 @@ abbrev pub invariant-loop-bytes : goal.invariant-loop-bytes
 invariant-loop-bytes g l = record {
   buffer_len : length l.buffer ≡ 4096;
   within : vec_len l.bytes ≤ l.most;
-  came : Consumes (g.S.Source.left l.initial.source) (g.S.Source.left l.source) l.bytes.items;
-  kept : g.S.Source.faults l.source ≡ g.S.Source.faults l.initial.source;
-  counted : g.S.Source.calls l.source ≤ g.S.Source.calls l.initial.source + vec_len l.bytes;
+  came : Consumes (g.S.Source.state l.initial.source).left (g.S.Source.state l.source).left l.bytes.items;
+  kept : (g.S.Source.state l.source).faults ≡ (g.S.Source.state l.initial.source).faults;
+  counted : (g.S.Source.state l.source).calls ≤ (g.S.Source.state l.initial.source).calls + vec_len l.bytes;
 }
 
 abbrev pub decreases-loop-bytes : goal.decreases-loop-bytes

@@ -1,0 +1,15 @@
+use Rattle.std.proofs.Common.{sym, subst}
+use Rattle.hc_words.specs.declared.requests.Request.{Request}
+use Rattle.hc_cmd.specs.Answers.{Answers}
+use Rattle.hc_cmd.specs.Prepared.{Prepares}
+use Rattle.hc_cmd.proofs.prepared.prepare_text.Goals as goal
+
+pub returns-in-Check : goal.returns-in-Check
+returns-in-Check c = subst (λ (r : Request). Prepares (Answers r c.args.text.now) c.prepare_size.result) (sym c.in-Check.is) c.prepare_size.ensures
+
+pub returns-in-Print : goal.returns-in-Print
+returns-in-Print c = subst (λ (r : Request). Prepares (Answers r c.args.text.now) c.prepare_spelling.result) (sym c.in-Print.is) c.prepare_spelling.ensures
+
+pub returns-in-Simulate : goal.returns-in-Simulate
+returns-in-Simulate c =
+    subst (λ (r : Request). Prepares (Answers r c.args.text.now) c.prepare_simulation.result) (sym c.in-Simulate.is) c.prepare_simulation.ensures

@@ -1,0 +1,100 @@
+//! The actions, and what may stand behind each.
+
+ghost use Rattle.std.specs.Prelude.{◌≡◌, None, IfSome, is_some, option_map};
+ghost use Rattle.hc_words.specs.Actions as spec;
+ghost use Rattle.hc_words.specs.Seen.{seen};
+ghost use Rattle.hc_words.specs.declared.actions.Action as act;
+
+use crate::line::Given;
+
+/// An action of the program.
+#[derive(Clone, Copy, Debug, PartialEq, Eq)]
+pub enum Action {
+    Check,
+    Print,
+    Simulate,
+}
+
+/// What stands behind an action: N where it must, each option and the flag where they may.
+#[derive(Clone, Copy, Debug, PartialEq, Eq)]
+pub struct Room {
+    pub number: bool,
+    pub seed: bool,
+    pub horizon: bool,
+    pub limit: bool,
+    pub workers: bool,
+    pub steps: bool,
+    pub report: bool,
+}
+
+const NOTHING: Room = Room {
+    number: false,
+    seed: false,
+    horizon: false,
+    limit: false,
+    workers: false,
+    steps: false,
+    report: false,
+};
+
+/// The action of this name.
+pub(crate) fn action_named(name: &str) -> Option<Action>
+    ensures some { IfSome result (λ a. spec.name_of_action a ≡ name.now) }
+    ensures none { result ≡ None → (a : act.Action) → spec.name_of_action a ≡ name.now → ⊥ }
+{
+    match name {
+        "check" => Some(Action::Check),
+        "print" => Some(Action::Print),
+        "simulate" => Some(Action::Simulate),
+        _ => None,
+    }
+}
+
+/// The row of an action in the table of what belongs to which.
+fn room_of(action: Action) -> Room
+    ensures { result ≡ spec.room_of action }
+{
+    match action {
+        Action::Check | Action::Print => NOTHING,
+        Action::Simulate => Room {
+            seed: true,
+            horizon: true,
+            limit: true,
+            ..NOTHING
+        },
+    }
+}
+
+/// Whether N is given exactly where it's wanted.
+fn is_wanted(wanted: bool, number: Option<&str>) -> bool
+    ensures { result ≡ spec.is_wanted wanted (option_map (λ s. s.now) number.entry) }
+{
+    match number {
+        Some(_) => wanted,
+        None => !wanted,
+    }
+}
+
+/// Whether an option is given only where there is room for it.
+fn allows(room: bool, value: Option<&str>) -> bool
+    ensures { result ≡ spec.allows room (option_map (λ s. s.now) value.entry) }
+{
+    match value {
+        Some(_) => room,
+        None => true,
+    }
+}
+
+/// Whether all that is given belongs to the action, and N is given exactly where it must be.
+pub(crate) fn belongs(action: Action, given: &Given<'_>) -> bool
+    ensures { result ≡ spec.belongs action (seen given.now) }
+{
+    let room = room_of(action);
+    is_wanted(room.number, given.number)
+        & allows(room.seed, given.seed)
+        & allows(room.horizon, given.horizon)
+        & allows(room.limit, given.limit)
+        & allows(room.workers, given.workers)
+        & allows(room.steps, given.steps)
+        & (room.report | !given.report)
+}

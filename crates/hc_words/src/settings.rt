@@ -1,0 +1,20 @@
+//! The settings of a simulation.
+
+ghost use Rattle.std.specs.Prelude.{◌≤◌, IsTrue};
+ghost use Rattle.hc_limits.specs.Limits.{most_steps};
+ghost use Rattle.hc_rational.specs.Words.{is_positive};
+
+use hc_frac::Frac;
+
+/// The settings of a simulation.
+#[derive(Clone, Copy, Debug, PartialEq, Eq)]
+pub struct Settings {
+    /// Its bits decide the internal choices.
+    pub seed: u64,
+    /// In time units, positive.
+    pub horizon: Frac,
+    /// The number of steps to which the run is limited, at least 1.
+    pub limit: u32,
+    pub ghost positive: { IsTrue (is_positive horizon) },
+    pub ghost in_range: { (1 ≤ limit) × (limit ≤ most_steps) },
+}
