@@ -48,3 +48,31 @@ most_steps = 1000000
 -- silent steps of one event of a process
 abbrev pub most_silent_steps : ℕ
 most_silent_steps = 4096
+
+-- steps to which a run is limited where the words give no limit
+abbrev pub default_steps : ℕ
+default_steps = 10000
+
+-- time units to the horizon where the words give none
+abbrev pub default_horizon : ℕ
+default_horizon = 100
+
+-- bytes of a C text, and of a source with its trace
+abbrev pub most_text_bytes : ℕ
+most_text_bytes = 67108864
+
+-- threads among which processes are shared; the least is 1
+abbrev pub most_workers : ℕ
+most_workers = 64
+
+-- steps of the thread machine; the least is 1
+abbrev pub most_machine_steps : ℕ
+most_machine_steps = 10000000
+
+-- steps of the thread machine where the words give none
+abbrev pub default_machine_steps : ℕ
+default_machine_steps = 100000
+
+-- pairs of processes of a made source; the least is 1
+abbrev pub most_pairs : ℕ
+most_pairs = 32

@@ -37,3 +37,24 @@ pub const MOST_STEPS: u64 = 1_000_000;
 
 /// The most silent steps of one event of a process.
 pub const MOST_SILENT_STEPS: u32 = 4_096;
+
+/// The steps to which a run is limited where the words give no limit.
+pub const DEFAULT_STEPS: u32 = 10_000;
+
+/// The horizon, in time units, where the words give none.
+pub const DEFAULT_HORIZON: i64 = 100;
+
+/// The most bytes of a C text, and of a source with its trace.
+pub const MOST_TEXT_BYTES: usize = 67_108_864;
+
+/// The most threads among which processes are shared. The least is 1.
+pub const MOST_WORKERS: u32 = 64;
+
+/// The most steps of the thread machine. The least is 1.
+pub const MOST_MACHINE_STEPS: u32 = 10_000_000;
+
+/// The steps of the thread machine where the words give none.
+pub const DEFAULT_MACHINE_STEPS: u32 = 100_000;
+
+/// The most pairs of processes of a made source. The least is 1.
+pub const MOST_PAIRS: u32 = 32;

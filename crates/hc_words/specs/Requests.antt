@@ -1,6 +1,6 @@
 -- What the words of a call ask for.
 use Rattle.std.specs.Prelude.{◌≡◌, ℕ, List, Option, Some, None, pos, slice_get, IsTrue}
-use Rattle.hc_limits.specs.Limits.{most_steps}
+use Rattle.hc_limits.specs.Limits.{most_steps, default_steps, default_horizon}
 use Rattle.clap.specs.Walk.{Text}
 use Rattle.hc_rational.specs.Words.{Rational, is_positive}
 use Rattle.hc_rational.specs.Rational.{whole}
@@ -20,12 +20,12 @@ seed_in (Some t) = number_within 0 18446744073709551615 t
 
 -- the limit of steps: 10,000 where it isn't given, and 1 to 1,000,000
 abbrev pub limit_in : Option Text → Option ℕ
-limit_in None = Some 10000
+limit_in None = Some default_steps
 limit_in (Some t) = number_within 1 most_steps t
 
--- the horizon in time units: 100 where it isn't given, and positive
+-- the horizon in time units: the default where it isn't given, and positive
 abbrev pub IsHorizon : Option Text → Rational → Type 0
-IsHorizon None q = q ≡ whole (pos 100)
+IsHorizon None q = q ≡ whole (pos default_horizon)
 IsHorizon (Some t) q = IsFractionText t q × IsTrue (is_positive q)
 
 -- these are the settings of a simulation

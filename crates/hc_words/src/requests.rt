@@ -2,6 +2,7 @@
 
 ghost use Rattle.std.specs.Prelude.{◌≡◌, pos, None, map, IfOk, IfSome, IsErrOf, option_map};
 ghost use Rattle.std.specs.String.{string_bytes};
+ghost use Rattle.hc_limits.specs.Limits.{default_horizon};
 ghost use Rattle.hc_rational.specs.Rational.{whole};
 ghost use Rattle.hc_rational.specs.Words.{Rational};
 ghost use Rattle.hc_words.specs.Requests as spec;
@@ -14,13 +15,8 @@ use crate::line::{Given, read_words};
 use crate::numbers::{number_within, positive_fraction};
 use crate::settings::Settings;
 use hc_frac::Frac;
-use hc_limits::MOST_STEPS;
+use hc_limits::{DEFAULT_HORIZON, DEFAULT_STEPS, MOST_STEPS};
 use std::alloc::Global;
-
-/// The horizon, in time units, where the words give none.
-const HORIZON: i64 = 100;
-/// The number of steps to which a run is limited, where the words give none.
-const LIMIT: u32 = 10_000;
 
 /// What the words ask for.
 #[derive(Clone, Copy, Debug, PartialEq, Eq)]
@@ -113,15 +109,15 @@ fn limit_of(text: Option<&str>) -> Option<u32>
             Some(limit) => Some(limit as u32),
             None => None,
         },
-        None => Some(LIMIT),
+        None => Some(DEFAULT_STEPS),
     }
 }
 
 /// The horizon where the words give none.
 fn default_horizon() -> Frac
-    ensures { result ≡ whole (pos 100) }
+    ensures { result ≡ whole (pos default_horizon) }
 {
-    match Frac::new(HORIZON, 1) {
+    match Frac::new(DEFAULT_HORIZON, 1) {
         Some(horizon) => horizon,
         None => unreachable!(),
     }
