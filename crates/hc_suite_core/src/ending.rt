@@ -6,7 +6,8 @@ ghost use Rattle.hc_term.specs.Profile.{reach, reach_in};
 use hc_cross::{affine, end_moment};
 use hc_frac::Frac;
 use hc_limits::MOST_VARIABLES;
-use hc_term::{Cond, Expr, Rate, Stmt, System, form_of, is_affine};
+use hc_list::Boxed;
+use hc_term::{Comparison, Cond, Expr, Rate, Stmt, System, form_of, is_affine};
 use std::alloc::{AllocError, Global};
 
 /// Whether the variables of an expression are below so many.
@@ -111,4 +112,30 @@ pub(crate) fn end_of(alloc: Global, system: &System) -> Result<String, AllocErro
         }
     }
     String::from_str(alloc, "unknown")
+}
+
+/// Either condition, or `!x >= LIMIT` where x is variable 0.
+fn or_below(alloc: Global, cond: Cond, limit: Frac) -> Result<Cond, AllocError> {
+    let left = Boxed::new(alloc, Expr::Variable(0))?;
+    let right = Boxed::new(alloc, Expr::Number(limit))?;
+    let reached = Cond::Compare(Comparison::AtLeast, left, right);
+    let below = Cond::Not(Boxed::new(alloc, reached)?);
+    Ok(Cond::Or(Boxed::new(alloc, cond)?, Boxed::new(alloc, below)?))
+}
+
+/// The end moment of `!x >= 1 || !x >= 2 || ..`, with so many comparisons, where x begins with 0 and has the rate 1.
+pub(crate) fn end_of_many(alloc: Global, count: &str) -> Result<String, AllocError> {
+    let (Ok(count), Some(one)) = (count.trim().parse::<u32>(), Frac::new(1, 1)) else {
+        return String::from_str(alloc, "unknown");
+    };
+    let mut cond = Cond::False;
+    let mut limit = Frac::zero();
+    for _made in 0..count {
+        let Some(next) = limit.add(one) else {
+            return String::from_str(alloc, "unfit");
+        };
+        limit = next;
+        cond = or_below(alloc, cond, limit)?;
+    }
+    end_text(alloc, &cond, &[Frac::zero()], &[Some(one)])
 }

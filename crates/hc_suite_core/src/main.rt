@@ -12,7 +12,7 @@ mod stepping;
 
 use accepting::system_of;
 use copying::copies_of;
-use ending::end_of;
+use ending::{end_of, end_of_many};
 use hc_term::System;
 use std::alloc::{AllocError, Global};
 use std::io;
@@ -23,6 +23,7 @@ fn answer_about(alloc: Global, question: &str, system: &System) -> Result<String
     match question.split_once(' ') {
         Some(("steps", words)) => steps_of(alloc, words, system),
         Some(("end", _)) => end_of(alloc, system),
+        Some(("many", count)) => end_of_many(alloc, count),
         Some(("copy", _)) => copies_of(alloc, system),
         _ => String::from_str(alloc, "unknown"),
     }
