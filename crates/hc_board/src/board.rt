@@ -1,11 +1,11 @@
 //! The board: one post for each process, and what happens between them.
 
-ghost use Rattle.std.specs.Prelude.{◌≡◌, ◌<◌, ◌≤◌, IfOk, length, map, replicate, slice_set};
+ghost use Rattle.std.specs.Prelude.{◌≡◌, ◌<◌, ◌≤◌, IfOk, length, replicate, slice_set};
 ghost use Rattle.hc_limits.specs.Limits.{most_processes, most_channels};
 ghost use Rattle.hc_term.specs.Offers.{going_post};
-ghost use Rattle.hc_term.specs.Posts.{first_meeting, passing_on, delay_fits, post_fits};
-ghost use Rattle.hc_term.specs.Moved.{moved_post, fired};
-ghost use Rattle.hc_board.specs.Seen.{Seen, KeepsLimits};
+ghost use Rattle.hc_term.specs.Posts.{first_meeting, passing_on};
+ghost use Rattle.hc_term.specs.Moved.{fired};
+ghost use Rattle.hc_board.specs.Seen.{KeepsLimits};
 ghost use Rattle.hc_board.specs.Answers.{answer_of, after_delay, after_meeting};
 
 use crate::delayed::Delayed;

@@ -1,8 +1,8 @@
 //! Which processes meet.
 
-ghost use Rattle.std.specs.Prelude.{◌≡◌, ◌<◌, ◌≤◌, ◌&&◌, ℕ, length, replicate, true, false, slice_set, is_some};
+ghost use Rattle.std.specs.Prelude.{◌≡◌, ◌≤◌, length, replicate, true, false, slice_set};
 ghost use Rattle.hc_limits.specs.Limits.{most_processes, most_channels};
-ghost use Rattle.hc_term.specs.Posts.{sent_on, receives_on, offer_sent_on, sender, receiver, meeting_on, first_meeting};
+ghost use Rattle.hc_term.specs.Posts.{sent_on, receives_on, sender, receiver, meeting_on, first_meeting};
 ghost use Rattle.hc_board.specs.Marks.{with_mark, with_marks, with_all_marks};
 
 use hc_frac::Frac;
