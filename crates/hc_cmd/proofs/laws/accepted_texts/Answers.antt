@@ -28,5 +28,5 @@ returns c =
       one_answer = one_answer decided;
       sized = λ text system reply accepted a. text_accepted decided _ text system reply accepted a;
       simulated = λ settings text system reply accepted is a.
-          plain_tells c.runs.ensures.canonical settings system reply is (text_accepted decided _ text system reply accepted a);
+          plain_tells c.step_laws.ensures.canonical settings system reply is (text_accepted decided _ text system reply accepted a);
     }
