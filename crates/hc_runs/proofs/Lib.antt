@@ -16,6 +16,9 @@ pub mod Parts
 pub mod Waking
 pub mod Guarded
 pub mod Paired
+pub mod Turning
+pub mod Visible
+pub mod LeastTurns
 pub mod Level
 pub mod ValuesFit
 pub mod Numbered

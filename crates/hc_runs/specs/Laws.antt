@@ -1,11 +1,12 @@
 -- What holds of delays, of all that a run reaches, and of its numbers.
-use Rattle.std.specs.Prelude.{◌≡◌, ◌≢◌, ◌<◌, ℕ, Bool, true, List, [], ◌∷◌, map, length, IsTrue, slice_get, slice_set, Option, Some, None, ◌⊎◌}
+use Rattle.std.specs.Prelude.{◌≡◌, ◌≢◌, ◌<◌, ◌≤◌, ℕ, ◌+◌, ◌-◌, Bool, true, List, [], ◌∷◌, ◌++◌, map, length, IsTrue, slice_get, slice_set, Option, Some, None, ◌⊎◌}
 use Rattle.std.specs.List.{list_all}
 use Rattle.hc_rational.specs.Words.{Rational, zero_ℚ, ◌+ℚ◌, ◌≤ℚ◌, fits}
 use Rattle.hc_term.specs.declared.stmt.Stmt.{Stmt, out-Stmt}
 use Rattle.hc_term.specs.declared.stmt.Stmt.TheOpen.{Stmt-F}
 use Rattle.hc_term.specs.declared.task.Task.{Task}
 use Rattle.hc_term.specs.declared.run.Item.{Item}
+use Rattle.hc_term.specs.declared.run.Stop.{Stop}
 use Rattle.hc_term.specs.declared.model.ProcessState.{ProcessState}
 use Rattle.hc_term.specs.declared.model.Meeting.{Meeting}
 use Rattle.hc_term.specs.declared.model.Configuration.{Configuration}
@@ -13,13 +14,15 @@ use Rattle.hc_term.specs.Process.{Layer, bound}
 use Rattle.hc_term.specs.Offers.{post}
 use Rattle.hc_term.specs.Communication.{sent, received, moved}
 use Rattle.hc_term.specs.Posts.{Passing, NoBound, AtHorizon, Took, sent_on, receives_on, delay_fits}
-use Rattle.hc_term.specs.Step.{opening, posts, ready, rests, passing, met, delayed, Leads}
-use Rattle.hc_term.specs.Canonical.{wanting_from}
+use Rattle.hc_term.specs.Step.{opening, posts, ready, rests, passing, met, delayed, Leads, IsRun}
+use Rattle.hc_term.specs.Stop.{IsBehaviour}
+use Rattle.hc_term.specs.Canonical.{canonical, course, wanting_from}
 use Rattle.hc_term.specs.Event.{event}
 use Rattle.hc_term.specs.Profile.{is_evolution, ios_in}
 use Rattle.hc_term.specs.Rules.{is_stmt}
 use Rattle.hc_term.specs.Moved.{IsWithin, moved_post, fired}
 use Rattle.hc_term.specs.Together.{is_within, ArePaired}
+use Rattle.hc_runs.specs.Turns.{WantsAt, IsLeast, IsAble, event_behind, Turns, LeastTurns}
 use Rattle.hc_runs.specs.Fractions.{task_numbers, has_fractions, is_item_fraction}
 
 -- whether a statement of a process with n variables keeps the profile, if it evolves
@@ -115,6 +118,77 @@ abbrev pub ReadyJoins : Type 0
 ReadyJoins =
     (t : Task) (items : List Item) (c : Configuration) (m : Meeting) → Leads t (opening t) items c → ready t c ≡ Some m →
     (m.channel < length t.system.channels) × Joins m c
+
+-- ---- turns
+
+-- where some process wants a silent step, one of them is the least
+abbrev pub AbleHasLeast : Type 0
+AbleHasLeast = (c : Configuration) → IsAble c → (p : ℕ) × IsLeast p c
+
+-- and the least that wants one does want it
+abbrev pub LeastWants : Type 0
+LeastWants = (c : Configuration) (p : ℕ) → IsLeast p c → WantsAt p c
+
+-- what turns lead to is a run that ends there
+abbrev pub TurnsAreRun : Type 0
+TurnsAreRun =
+    (t : Task) (n : ℕ) (items : List Item) (end : Configuration) (stop : Option Stop) → Turns t n items end stop → IsRun t items end
+
+-- the stop that the last turn set holds there
+abbrev pub TurnsStop : Type 0
+TurnsStop =
+    (t : Task) (n : ℕ) (items : List Item) (end : Configuration) (stop : Stop) → Turns t n items end (Some stop) →
+    IsBehaviour t items end stop
+
+-- these items led to a configuration with no channel ready, where some process has a turn, and there is room for one
+pub record GoesOn (t : Task) (items : List Item) (c : Configuration) : Type 0 where
+  pub quiet : ready t c ≡ None
+  pub able : (p : ℕ) × IsLeast p c
+  pub room : length items < t.limit
+
+-- where the last turn set no stop, there may be one more
+abbrev pub TurnsGoOn : Type 0
+TurnsGoOn = (t : Task) (n : ℕ) (items : List Item) (end : Configuration) → Turns t n items end None → GoesOn t items end
+
+-- a turn that sets no stop has an item at least
+abbrev pub TurnsAreVisible : Type 0
+TurnsAreVisible =
+    (room : ℕ) (t : Task) (p : ℕ) (c : Configuration) → WantsAt p c → let e = event room t p c in e.stop ≡ None → 0 < length e.items
+
+-- and so leaves less room than there was
+abbrev pub TurnsEnd : Type 0
+TurnsEnd =
+    (t : Task) (n : ℕ) (items : List Item) (c : Configuration) (p : ℕ) → Turns t n items c None → WantsAt p c →
+    let e = event_behind items t p c in e.stop ≡ None → t.limit - length (items ++ e.items) < t.limit - length items
+
+-- there are no more turns than items, but for one that sets the stop, and no more than the limit
+pub record AreFew (t : Task) (n : ℕ) (items : List Item) (stop : Option Stop) : Type 0 where
+  pub going : stop ≡ None → n ≤ length items
+  pub in_all : n ≤ length items + 1
+  pub within : n ≤ t.limit
+  pub begun : (0 < length items) ⊎ (stop ≢ None) → 0 < n
+
+abbrev pub TurnsAreFew : Type 0
+TurnsAreFew =
+    (t : Task) (n : ℕ) (items : List Item) (end : Configuration) (stop : Option Stop) → Turns t n items end stop →
+    AreFew t n items stop
+
+abbrev pub LeastTurnsAreTurns : Type 0
+LeastTurnsAreTurns =
+    (t : Task) (n : ℕ) (items : List Item) (end : Configuration) (stop : Option Stop) → LeastTurns t n items end stop →
+    Turns t n items end stop
+
+-- turns of the least process, up to a stop, are the canonical run
+abbrev pub LeastTurnsAreCanonical : Type 0
+LeastTurnsAreCanonical =
+    (t : Task) (n : ℕ) (items : List Item) (end : Configuration) (stop : Stop) → LeastTurns t n items end (Some stop) →
+    canonical t ≡ record { items = items; end = end; stop = stop }
+
+-- and before a stop they are what it begins with
+abbrev pub LeastTurnsBegin : Type 0
+LeastTurnsBegin =
+    (t : Task) (n : ℕ) (items : List Item) (end : Configuration) → LeastTurns t n items end None →
+    let k = course (t.limit - length items) t end in canonical t ≡ record k { items = items ++ k.items }
 
 -- ---- fractions
 

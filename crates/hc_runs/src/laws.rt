@@ -1,6 +1,6 @@
-//! Laws of delays, of meetings, of runs, and of fractions.
+//! Laws of delays, of meetings, of runs, of turns, and of fractions.
 
-ghost use Rattle.hc_runs.specs.Laws.{PostsMove, AllPostsMove, DelaysEnd, DelayFits, PostsMeet, RunsKeepRules, OpeningGoesOn, EventsGoOn, PostsArePaired, ReadyJoins, RunsKeepFractions, ItemsAreFractions};
+ghost use Rattle.hc_runs.specs.Laws.{PostsMove, AllPostsMove, DelaysEnd, DelayFits, PostsMeet, RunsKeepRules, OpeningGoesOn, EventsGoOn, PostsArePaired, ReadyJoins, AbleHasLeast, LeastWants, TurnsAreRun, TurnsStop, TurnsGoOn, TurnsAreVisible, TurnsEnd, TurnsAreFew, LeastTurnsAreTurns, LeastTurnsAreCanonical, LeastTurnsBegin, RunsKeepFractions, ItemsAreFractions};
 
 /// What holds of every delay. There is nothing to run: the clauses are the laws.
 pub fn delay_laws()
@@ -22,6 +22,21 @@ pub fn run_laws()
     ensures events { EventsGoOn }
     ensures posts { PostsArePaired }
     ensures meetings { ReadyJoins }
+{}
+
+/// What holds of all turns of processes that want a silent step. There is nothing to run: the clauses are the laws.
+pub fn turn_laws()
+    ensures able { AbleHasLeast }
+    ensures wanting { LeastWants }
+    ensures run { TurnsAreRun }
+    ensures stop { TurnsStop }
+    ensures going { TurnsGoOn }
+    ensures visible { TurnsAreVisible }
+    ensures falling { TurnsEnd }
+    ensures few { TurnsAreFew }
+    ensures least { LeastTurnsAreTurns }
+    ensures canonical { LeastTurnsAreCanonical }
+    ensures beginning { LeastTurnsBegin }
 {}
 
 /// What holds of the numbers of every run of a task. There is nothing to run: the clauses are the laws.
