@@ -16,9 +16,6 @@ pub mod Parts
 pub mod Waking
 pub mod Guarded
 pub mod Paired
-pub mod Turning
-pub mod Visible
-pub mod LeastTurns
 pub mod Level
 pub mod ValuesFit
 pub mod Numbered
@@ -26,3 +23,6 @@ pub mod ShownFit
 pub mod StepsFit
 pub mod DelaysFit
 pub mod RunsFit
+pub mod Turning
+pub mod Visible
+pub mod LeastTurns

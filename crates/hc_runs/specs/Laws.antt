@@ -1,4 +1,4 @@
--- What holds of delays, of all that a run reaches, and of its numbers.
+-- What holds of delays, of all that a run reaches, of turns, and of the numbers of a run.
 use Rattle.std.specs.Prelude.{◌≡◌, ◌≢◌, ◌<◌, ◌≤◌, ℕ, ◌+◌, ◌-◌, Bool, true, List, [], ◌∷◌, ◌++◌, map, length, IsTrue, slice_get, slice_set, Option, Some, None, ◌⊎◌}
 use Rattle.std.specs.List.{list_all}
 use Rattle.hc_rational.specs.Words.{Rational, zero_ℚ, ◌+ℚ◌, ◌≤ℚ◌, fits}
@@ -16,13 +16,13 @@ use Rattle.hc_term.specs.Communication.{sent, received, moved}
 use Rattle.hc_term.specs.Posts.{Passing, NoBound, AtHorizon, Took, sent_on, receives_on, delay_fits}
 use Rattle.hc_term.specs.Step.{opening, posts, ready, rests, passing, met, delayed, Leads, IsRun}
 use Rattle.hc_term.specs.Stop.{IsBehaviour}
-use Rattle.hc_term.specs.Canonical.{canonical, course, wanting_from}
-use Rattle.hc_term.specs.Event.{event}
+use Rattle.hc_term.specs.Canonical.{wanting_from, canonical}
+use Rattle.hc_term.specs.Event.{Event, event}
 use Rattle.hc_term.specs.Profile.{is_evolution, ios_in}
 use Rattle.hc_term.specs.Rules.{is_stmt}
 use Rattle.hc_term.specs.Moved.{IsWithin, moved_post, fired}
 use Rattle.hc_term.specs.Together.{is_within, ArePaired}
-use Rattle.hc_runs.specs.Turns.{WantsAt, IsLeast, IsAble, event_behind, Turns, LeastTurns}
+use Rattle.hc_runs.specs.Turns.{WantsAt, IsLeast, IsAble, event_behind, Turns, LeastTurns, completed}
 use Rattle.hc_runs.specs.Fractions.{task_numbers, has_fractions, is_item_fraction}
 
 -- whether a statement of a process with n variables keeps the profile, if it evolves
@@ -129,18 +129,19 @@ AbleHasLeast = (c : Configuration) → IsAble c → (p : ℕ) × IsLeast p c
 abbrev pub LeastWants : Type 0
 LeastWants = (c : Configuration) (p : ℕ) → IsLeast p c → WantsAt p c
 
--- what turns lead to is a run that ends there
+-- turns are a run, which ends where they do
 abbrev pub TurnsAreRun : Type 0
 TurnsAreRun =
-    (t : Task) (n : ℕ) (items : List Item) (end : Configuration) (stop : Option Stop) → Turns t n items end stop → IsRun t items end
+    (t : Task) (n : ℕ) (items : List Item) (end : Configuration) (stop : Option Stop) →
+    Turns t n items end stop → IsRun t items end
 
 -- the stop that the last turn set holds there
 abbrev pub TurnsStop : Type 0
 TurnsStop =
-    (t : Task) (n : ℕ) (items : List Item) (end : Configuration) (stop : Stop) → Turns t n items end (Some stop) →
-    IsBehaviour t items end stop
+    (t : Task) (n : ℕ) (items : List Item) (end : Configuration) (stop : Stop) →
+    Turns t n items end (Some stop) → IsBehaviour t items end stop
 
--- these items led to a configuration with no channel ready, where some process has a turn, and there is room for one
+-- no channel is ready, some process wants a silent step, and these items leave room for one
 pub record GoesOn (t : Task) (items : List Item) (c : Configuration) : Type 0 where
   pub quiet : ready t c ≡ None
   pub able : (p : ℕ) × IsLeast p c
@@ -148,20 +149,39 @@ pub record GoesOn (t : Task) (items : List Item) (c : Configuration) : Type 0 wh
 
 -- where the last turn set no stop, there may be one more
 abbrev pub TurnsGoOn : Type 0
-TurnsGoOn = (t : Task) (n : ℕ) (items : List Item) (end : Configuration) → Turns t n items end None → GoesOn t items end
+TurnsGoOn =
+    (t : Task) (n : ℕ) (items : List Item) (end : Configuration) → Turns t n items end None → GoesOn t items end
+
+-- what a run keeps
+pub record Keeps (t : Task) (c : Configuration) : Type 0 where
+  pub ruled : IsTrue (list_all (is_ruled (length t.system.channels)) c.processes)
+  pub in_profile : IsTrue (list_all keeps_profile c.processes)
+  pub paired : ArePaired (length t.system.channels) (posts c)
+  pub in_time : c.clock ≤ℚ t.horizon
+  pub fractions : IsTrue (task_numbers t) →
+      IsTrue (fits c.clock) × IsTrue (list_all (has_fractions c.clock) c.processes)
+
+-- turns keep it
+abbrev pub TurnsKeep : Type 0
+TurnsKeep =
+    (t : Task) (n : ℕ) (items : List Item) (end : Configuration) (stop : Option Stop) →
+    Turns t n items end stop → Keeps t end
 
 -- a turn that sets no stop has an item at least
 abbrev pub TurnsAreVisible : Type 0
 TurnsAreVisible =
-    (room : ℕ) (t : Task) (p : ℕ) (c : Configuration) → WantsAt p c → let e = event room t p c in e.stop ≡ None → 0 < length e.items
+    (room : ℕ) (t : Task) (p : ℕ) (c : Configuration) → WantsAt p c →
+    let e = event room t p c in e.stop ≡ None → 0 < length e.items
 
 -- and so leaves less room than there was
 abbrev pub TurnsEnd : Type 0
 TurnsEnd =
-    (t : Task) (n : ℕ) (items : List Item) (c : Configuration) (p : ℕ) → Turns t n items c None → WantsAt p c →
-    let e = event_behind items t p c in e.stop ≡ None → t.limit - length (items ++ e.items) < t.limit - length items
+    (t : Task) (items : List Item) (p : ℕ) (c : Configuration) → WantsAt p c →
+    let e = event_behind items t p c in
+    e.stop ≡ None → t.limit - length (items ++ e.items) < t.limit - length items
 
--- there are no more turns than items, but for one that sets the stop, and no more than the limit
+-- There are no more turns than items, but for one that sets the stop, and no more than the limit; where there is an
+-- item or a stop, there was a turn.
 pub record AreFew (t : Task) (n : ℕ) (items : List Item) (stop : Option Stop) : Type 0 where
   pub going : stop ≡ None → n ≤ length items
   pub in_all : n ≤ length items + 1
@@ -170,25 +190,40 @@ pub record AreFew (t : Task) (n : ℕ) (items : List Item) (stop : Option Stop) 
 
 abbrev pub TurnsAreFew : Type 0
 TurnsAreFew =
-    (t : Task) (n : ℕ) (items : List Item) (end : Configuration) (stop : Option Stop) → Turns t n items end stop →
-    AreFew t n items stop
+    (t : Task) (n : ℕ) (items : List Item) (end : Configuration) (stop : Option Stop) →
+    Turns t n items end stop → AreFew t n items stop
 
+-- ---- turns of the least process
+
+-- the least process wants its step, so these are turns
 abbrev pub LeastTurnsAreTurns : Type 0
 LeastTurnsAreTurns =
-    (t : Task) (n : ℕ) (items : List Item) (end : Configuration) (stop : Option Stop) → LeastTurns t n items end stop →
-    Turns t n items end stop
+    (t : Task) (n : ℕ) (items : List Item) (end : Configuration) (stop : Option Stop) →
+    LeastTurns t n items end stop → Turns t n items end stop
 
--- turns of the least process, up to a stop, are the canonical run
-abbrev pub LeastTurnsAreCanonical : Type 0
-LeastTurnsAreCanonical =
-    (t : Task) (n : ℕ) (items : List Item) (end : Configuration) (stop : Stop) → LeastTurns t n items end (Some stop) →
-    canonical t ≡ record { items = items; end = end; stop = stop }
+-- the event goes on as the canonical steps from c do, to which these items led, or ends where they end
+pub record Advances (t : Task) (items : List Item) (c : Configuration) (e : Event) : Type 0 where
+  pub going : e.stop ≡ None → completed t items c ≡ completed t (items ++ e.items) e.end
+  pub stopped : (stop : Stop) → e.stop ≡ Some stop →
+      completed t items c ≡ record { items = items ++ e.items; end = e.end; stop = stop }
 
--- and before a stop they are what it begins with
+-- so does a turn of the least process, whoever had turns before it
+abbrev pub LeastTurnAdvances : Type 0
+LeastTurnAdvances =
+    (t : Task) (n : ℕ) (items : List Item) (p : ℕ) (c : Configuration) → Turns t n items c None → IsLeast p c →
+    Advances t items c (event_behind items t p c)
+
+-- where the least process has each turn, the canonical run begins with them
 abbrev pub LeastTurnsBegin : Type 0
 LeastTurnsBegin =
-    (t : Task) (n : ℕ) (items : List Item) (end : Configuration) → LeastTurns t n items end None →
-    let k = course (t.limit - length items) t end in canonical t ≡ record k { items = items ++ k.items }
+    (t : Task) (n : ℕ) (items : List Item) (end : Configuration) →
+    LeastTurns t n items end None → canonical t ≡ completed t items end
+
+-- and with a stop they are the canonical run
+abbrev pub LeastTurnsAreCanonical : Type 0
+LeastTurnsAreCanonical =
+    (t : Task) (n : ℕ) (items : List Item) (end : Configuration) (stop : Stop) →
+    LeastTurns t n items end (Some stop) → canonical t ≡ record { items = items; end = end; stop = stop }
 
 -- ---- fractions
 

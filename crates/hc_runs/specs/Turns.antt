@@ -7,7 +7,7 @@ use Rattle.hc_term.specs.declared.model.ProcessState.{ProcessState}
 use Rattle.hc_term.specs.declared.model.Configuration.{Configuration}
 use Rattle.hc_term.specs.Process.{wants}
 use Rattle.hc_term.specs.Step.{opening}
-use Rattle.hc_term.specs.Canonical.{wanting_from}
+use Rattle.hc_term.specs.Canonical.{wanting_from, Course, course}
 use Rattle.hc_term.specs.Event.{Event, event}
 
 -- process number p wants a silent step
@@ -26,18 +26,26 @@ IsAble c = (p : ℕ) × WantsAt p c
 abbrev pub event_behind : List Item → Task → ℕ → Configuration → Event
 event_behind items t p c = event (t.limit - length items) t p c
 
--- So many turns lead from the opening, by these items, to this configuration, and the last may have set a stop.
--- Each is the event of a process that may be chosen; none follows a stop.
-pub data TurnsOf (MayBeChosen : ℕ → Configuration → Type 0) (t : Task) : ℕ → List Item → Configuration → Option Stop → Type 0 where
-  no_turn : TurnsOf MayBeChosen t 0 [] (opening t) None
+-- So many turns lead from the opening by these items to this configuration, and may have set this stop.
+-- Each is an event of a process that may have the turn; none follows a stop.
+pub data TurnsOf (MayTurn : ℕ → Configuration → Type 0) (t : Task)
+    : ℕ → List Item → Configuration → Option Stop → Type 0 where
+  no_turn : TurnsOf MayTurn t 0 [] (opening t) None
   one_more : (n : ℕ) (items : List Item) (c : Configuration) (p : ℕ)
-      → TurnsOf MayBeChosen t n items c None → MayBeChosen p c
-      → TurnsOf MayBeChosen t (n + 1) (items ++ (event_behind items t p c).items) (event_behind items t p c).end (event_behind items t p c).stop
+      → TurnsOf MayTurn t n items c None → MayTurn p c
+      → TurnsOf MayTurn t (n + 1)
+      (items ++ (event_behind items t p c).items)
+      (event_behind items t p c).end
+      (event_behind items t p c).stop
 
 -- turns of any processes that want a silent step
 abbrev pub Turns : Task → ℕ → List Item → Configuration → Option Stop → Type 0
 Turns = TurnsOf WantsAt
 
--- turns of the least process that wants one, each time
+-- each turn is that of the least process that wants one
 abbrev pub LeastTurns : Task → ℕ → List Item → Configuration → Option Stop → Type 0
 LeastTurns = TurnsOf IsLeast
+
+-- these items, and behind them the canonical steps from c, to which they led
+abbrev pub completed : Task → List Item → Configuration → Course
+completed t items c = let k = course (t.limit - length items) t c in record k { items = items ++ k.items }

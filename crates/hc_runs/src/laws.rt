@@ -1,6 +1,6 @@
 //! Laws of delays, of meetings, of runs, of turns, and of fractions.
 
-ghost use Rattle.hc_runs.specs.Laws.{PostsMove, AllPostsMove, DelaysEnd, DelayFits, PostsMeet, RunsKeepRules, OpeningGoesOn, EventsGoOn, PostsArePaired, ReadyJoins, AbleHasLeast, LeastWants, TurnsAreRun, TurnsStop, TurnsGoOn, TurnsAreVisible, TurnsEnd, TurnsAreFew, LeastTurnsAreTurns, LeastTurnsAreCanonical, LeastTurnsBegin, RunsKeepFractions, ItemsAreFractions};
+ghost use Rattle.hc_runs.specs.Laws.{PostsMove, AllPostsMove, DelaysEnd, DelayFits, PostsMeet, RunsKeepRules, OpeningGoesOn, EventsGoOn, PostsArePaired, ReadyJoins, AbleHasLeast, LeastWants, TurnsAreRun, TurnsStop, TurnsGoOn, TurnsKeep, TurnsAreVisible, TurnsEnd, TurnsAreFew, LeastTurnsAreTurns, LeastTurnAdvances, LeastTurnsBegin, LeastTurnsAreCanonical, RunsKeepFractions, ItemsAreFractions};
 
 /// What holds of every delay. There is nothing to run: the clauses are the laws.
 pub fn delay_laws()
@@ -31,12 +31,14 @@ pub fn turn_laws()
     ensures run { TurnsAreRun }
     ensures stop { TurnsStop }
     ensures going { TurnsGoOn }
+    ensures kept { TurnsKeep }
     ensures visible { TurnsAreVisible }
     ensures falling { TurnsEnd }
     ensures few { TurnsAreFew }
     ensures least { LeastTurnsAreTurns }
-    ensures canonical { LeastTurnsAreCanonical }
+    ensures advance { LeastTurnAdvances }
     ensures beginning { LeastTurnsBegin }
+    ensures canonical { LeastTurnsAreCanonical }
 {}
 
 /// What holds of the numbers of every run of a task. There is nothing to run: the clauses are the laws.
