@@ -1,20 +1,21 @@
--- A local that went on or arrived stands for the configuration that did the same.
-use Rattle.std.proofs.Common.{◌≡◌, sym, ap, ◌∙◌, subst, arith, ℕ, ◌+◌, ◌%◌, ◌<◌, IsTrue, List, take, Option, Some, None}
+-- A local that went on stands for the configuration that did the same.
+use Rattle.std.proofs.Common.{◌≡◌, sym, ap, ◌∙◌, subst, arith, ℕ, ◌+◌, ◌%◌, ◌<◌, List, take, Option, Some, None}
 use Rattle.std.specs.Prelude.{slice_get, slice_set}
 use Rattle.std.proofs.Math.Seq.{take-set-lt}
 use Rattle.hc_rational.specs.Words.{Rational}
 use Rattle.hc_term.specs.declared.stmt.Stmt.{Stmt}
-use Rattle.hc_term.specs.declared.model.Mark.TheVariants.{Going, Arrived}
+use Rattle.hc_term.specs.declared.model.Mark.TheVariants.{Going}
 use Rattle.hc_term.specs.declared.model.ProcessState.{ProcessState}
 use Rattle.hc_term.specs.Value.{Store}
 use Rattle.hc_code.specs.declared.code.Instr.{Instr}
 use Rattle.hc_code.specs.Stands.{Table, At, AllAgree}
 use Rattle.hc_step.specs.declared.local.Local.{Local}
 use Rattle.hc_step.specs.declared.look.Move.TheVariants as move
-use Rattle.hc_step.specs.Taking.{phase_of, plain_post, post_of, may_arrive}
+use Rattle.hc_step.specs.Taking.{phase_of}
+use Rattle.hc_step.specs.Arriving.{plain_post}
 use Rattle.hc_step.specs.Represents.{Represents, Carries, LeadsTo, Keeps}
 use Rattle.hc_step.proofs.Sees.{agrees_at}
-use Rattle.hc_step.proofs.Shown.{going_shows, arrived_shows}
+use Rattle.hc_step.proofs.Shown.{going_shows}
 
 pub carried : (t : Table) (clock : Rational) (l : Local) (q : ProcessState) → Represents t clock l q → Carries l q
 carried t clock l q r = record { same_store = r.same_store; same_choices = r.same_choices }
@@ -41,20 +42,6 @@ went t code clock i next q rest new all at here place going shows c = record {
   same_choices = c.same_choices;
   same_mark = going;
   same_post = shows ∙ going_shows t clock q.store None i rest (agrees_at t t code next rest i all at here);
-}
-
-pub arrives : (t : Table) (code : List Instr) (clock left : Rational) (i : Instr) (q : ProcessState) (old new : Local) → AllAgree t code t →
-    slice_get code old.place ≡ Some i → IsTrue (may_arrive (take old.variables old.store) clock left i) → new.place ≡ old.place → new.mark ≡ Arrived left →
-    new.post ≡ post_of (take old.variables old.store) clock left i → Carries new q → Represents t clock old q →
-    Represents t clock new (record q { mark = Arrived left })
-arrives t code clock left i q old new all here fit place arrived shows c r = record {
-  at_place = subst (λ (n : ℕ). At t n q.todo) (sym place) r.at_place;
-  same_store = c.same_store;
-  same_choices = c.same_choices;
-  same_mark = arrived;
-  same_post = shows ∙ ap (λ (s : Store). post_of s clock left i) r.same_store
-      ∙ arrived_shows t clock left q.store i q.todo (agrees_at t t code old.place q.todo i all r.at_place here)
-      (subst (λ (s : Store). IsTrue (may_arrive s clock left i)) r.same_store fit);
 }
 
 pub carried_set : (old mid : Local) (q : ProcessState) (x : ℕ) (v : Rational) → Carries old q → x < old.variables → mid.variables ≡ old.variables →
@@ -95,7 +82,3 @@ module _ (t : Table) (clock : Rational) (q next : ProcessState) (logged : Option
       ((rest : List Stmt) → At t place rest → Represents t clock new (record q { todo = rest; choices = q.choices + 1; mark = Going })) →
       Represents t clock new next
   led_picking place h f = subst (λ (p : ProcessState). Represents t clock new p) (sym h.3) (f h.0 h.1)
-
-  pub led_arriving : (left : Rational) → LeadsTo t q (move.Arrives left) logged next → Represents t clock new (record q { mark = Arrived left }) →
-      Represents t clock new next
-  led_arriving left h r = subst (λ (p : ProcessState). Represents t clock new p) (sym h.1) r

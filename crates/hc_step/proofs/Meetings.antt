@@ -1,13 +1,12 @@
 -- The first way on a channel leads where the definition of a communication does.
-use Rattle.std.proofs.Common.{◌≡◌, ◌≢◌, refl, sym, ap, ◌∙◌, subst, ℕ, ◌<◌, Bool, true, false, ◌||◌, if◌then◌else◌, ◌==◌, IsTrue, List, [], ◌∷◌, ◌++◌, length, Option, Some, None}
-use Rattle.std.specs.Prelude.{slice_get, slice_set, nat_lt, nat_le}
+use Rattle.std.proofs.Common.{◌≡◌, ◌≢◌, refl, sym, subst, ℕ, ◌<◌, Bool, true, false, ◌||◌, if◌then◌else◌, ◌==◌, IsTrue, List, [], ◌∷◌, ◌++◌, length, Option, Some, None}
+use Rattle.std.specs.Prelude.{slice_get, slice_set, nat_lt}
 use Rattle.std.specs.List.{list_all}
 use Rattle.std.proofs.lemmas.Bool.{ltb-true, false≢true}
 use Rattle.hc_rational.specs.Words.{Rational}
 use Rattle.hc_term.specs.declared.stmt.Io.{Io}
 use Rattle.hc_term.specs.declared.stmt.Io.TheVariants.{Send, Receive}
-use Rattle.hc_term.specs.declared.stmt.Rate.{Rate}
-use Rattle.hc_term.specs.declared.expr.Cond.{Cond}
+use Rattle.hc_term.specs.declared.post.Offer.{Offer}
 use Rattle.hc_term.specs.declared.stmt.Stmt.{Stmt, out-Stmt}
 use Rattle.hc_term.specs.declared.stmt.Stmt.TheOpen.{Stmt-F}
 use Rattle.hc_term.specs.declared.stmt.Branch.{Branch, out-Branch}
@@ -15,19 +14,23 @@ use Rattle.hc_term.specs.declared.model.Mark.{Mark}
 use Rattle.hc_term.specs.declared.model.Mark.TheVariants.{Going, Arrived}
 use Rattle.hc_term.specs.declared.model.ProcessState.{ProcessState}
 use Rattle.hc_term.specs.Value.{Store}
-use Rattle.hc_term.specs.Process.{Layer, bound_here, bound_at}
+use Rattle.hc_term.specs.Motion.{Rates, rates_in}
+use Rattle.hc_term.specs.Process.{Layer, bound_here, bound_at, is_due}
+use Rattle.hc_term.specs.Profile.{is_io, is_evolution, are_guards}
 use Rattle.hc_term.specs.Offers.{offer_of, offers_of, offers_here, post_at}
 use Rattle.hc_term.specs.Posts.{first_of, offer_sent_on, sent_on, offer_receives_on, receives_on}
 use Rattle.hc_term.specs.Communication as comm
 use Rattle.hc_code.specs.declared.code.Way.{Way}
 use Rattle.hc_code.specs.declared.code.Instr.{Instr}
 use Rattle.hc_code.specs.declared.code.Instr.TheVariants as instr
+use Rattle.hc_code.specs.Kept.{ios_of, is_instr}
 use Rattle.hc_code.specs.Stands.{Table, At, AgreesHere, WaysAgree, Agrees}
 use Rattle.hc_code.proofs.Growing as bool
 use Rattle.hc_step.specs.declared.meeting.Taken.{Taken}
-use Rattle.hc_step.specs.Usable.{has_values_io, has_values, has_places, is_usable_code}
+use Rattle.hc_step.specs.Usable.{has_places, IsUsable}
 use Rattle.hc_step.specs.Ways.{ways_of, if_sends, sent_way, if_receives, received_way}
-use Rattle.hc_step.proofs.Sees.{usable_at}
+use Rattle.hc_step.proofs.Sees.{rules_at, places_at}
+use Rattle.hc_step.proofs.Guards.{guards}
 
 -- ---- places and variables are in range
 
@@ -61,46 +64,50 @@ taken_by n len true j k h e =
     subst (λ (x : Taken). AreInRange n len x) same h
 taken_by n len false j k h e = cc
 
-taken_of : (n len c next : ℕ) (k : Taken) (io : Io) → IsTrue (has_values_io n io) → next < len → if_receives c next io ≡ Some k → AreInRange n len k
-taken_of n len c next k (Send channel value) h l e = cc
-taken_of n len c next k (Receive channel variable) h l e =
-    taken_by n len (channel == c) (record { variable = variable; next = next }) k (record { variable = ltb-true variable n h; place = l }) e
+taken_of : (channels n len c next : ℕ) (k : Taken) (io : Io) → IsTrue (is_io channels n io) → next < len → if_receives c next io ≡ Some k → AreInRange n len k
+taken_of channels n len c next k (Send channel value) h l e = cc
+taken_of channels n len c next k (Receive channel variable) h l e =
+    taken_by n len (channel == c) (record { variable = variable; next = next }) k
+    (record { variable = ltb-true variable n (bool.second_of (nat_lt channel channels) (nat_lt variable n) h); place = l }) e
 
-received_within : (n len c : ℕ) (k : Taken) (ways : List Way) → IsTrue (list_all (λ w. has_values_io n w.io) ways) →
+pub received_within : (channels n len c : ℕ) (k : Taken) (ways : List Way) → IsTrue (list_all (λ w. is_io channels n w.io) ways) →
     IsTrue (list_all (λ w. nat_lt w.next len) ways) → received_way c ways ≡ Some k → AreInRange n len k
-received_within n len c k [] v h e = cc
-received_within n len c k (w ∷ ws) v h e =
+received_within channels n len c k [] v h e = cc
+received_within channels n len c k (w ∷ ws) v h e =
     either (AreInRange n len k) (if_receives c w.next w.io) (received_way c ws) k e
-    (λ f. taken_of n len c w.next k w.io (bool.first_of (has_values_io n w.io) (list_all (λ w. has_values_io n w.io) ws) v)
+    (λ f. taken_of channels n len c w.next k w.io (bool.first_of (is_io channels n w.io) (list_all (λ w. is_io channels n w.io) ws) v)
     (ltb-true w.next len (bool.first_of (nat_lt w.next len) (list_all (λ w. nat_lt w.next len) ws) h)) f)
-    (λ f. received_within n len c k ws (bool.second_of (has_values_io n w.io) (list_all (λ w. has_values_io n w.io) ws) v)
+    (λ f. received_within channels n len c k ws (bool.second_of (is_io channels n w.io) (list_all (λ w. is_io channels n w.io) ws) v)
     (bool.second_of (nat_lt w.next len) (list_all (λ w. nat_lt w.next len) ws) h) f)
 
-pub sent_in_range : (n len c m : ℕ) (i : Instr) → IsTrue (has_values n i) → IsTrue (has_places len i) → sent_way c (ways_of i) ≡ Some m → m < len
-sent_in_range n len c m (instr.Meet ways) v p e = sent_within len c m ways p e
-sent_in_range n len c m (instr.Evolve rates test ways next) v p e = cc
-sent_in_range n len c m (instr.Skip next) v p e = cc
-sent_in_range n len c m (instr.Again next) v p e = cc
-sent_in_range n len c m (instr.Assign x value next) v p e = cc
-sent_in_range n len c m (instr.Log value next) v p e = cc
-sent_in_range n len c m (instr.Test test first second) v p e = cc
-sent_in_range n len c m (instr.Pick left right) v p e = cc
-sent_in_range n len c m (instr.Wait value next) v p e = cc
-sent_in_range n len c m instr.End v p e = cc
+pub sent_in_range : (len c m : ℕ) (i : Instr) → IsTrue (has_places len i) → sent_way c (ways_of i) ≡ Some m → m < len
+sent_in_range len c m (instr.Meet ways) p e = sent_within len c m ways p e
+sent_in_range len c m (instr.Evolve rates test ways next) p e =
+    sent_within len c m ways (bool.first_of (list_all (λ w. nat_lt w.next len) ways) (nat_lt next len) p) e
+sent_in_range len c m (instr.Skip next) p e = cc
+sent_in_range len c m (instr.Again next) p e = cc
+sent_in_range len c m (instr.Assign x value next) p e = cc
+sent_in_range len c m (instr.Log value next) p e = cc
+sent_in_range len c m (instr.Test test first second) p e = cc
+sent_in_range len c m (instr.Pick left right) p e = cc
+sent_in_range len c m (instr.Wait value next) p e = cc
+sent_in_range len c m instr.End p e = cc
 
-pub received_in_range : (n len c : ℕ) (k : Taken) (i : Instr) → IsTrue (has_values n i) → IsTrue (has_places len i) → received_way c (ways_of i) ≡ Some k →
-    AreInRange n len k
-received_in_range n len c k (instr.Meet ways) v p e =
-    received_within n len c k ways (bool.second_of (nat_le (length ways) 32) (list_all (λ w. has_values_io n w.io) ways) v) p e
-received_in_range n len c k (instr.Evolve rates test ways next) v p e = cc
-received_in_range n len c k (instr.Skip next) v p e = cc
-received_in_range n len c k (instr.Again next) v p e = cc
-received_in_range n len c k (instr.Assign x value next) v p e = cc
-received_in_range n len c k (instr.Log value next) v p e = cc
-received_in_range n len c k (instr.Test test first second) v p e = cc
-received_in_range n len c k (instr.Pick left right) v p e = cc
-received_in_range n len c k (instr.Wait value next) v p e = cc
-received_in_range n len c k instr.End v p e = cc
+pub received_in_range : (channels n len c : ℕ) (k : Taken) (i : Instr) → IsTrue (is_instr channels n i) → IsTrue (has_places len i) →
+    received_way c (ways_of i) ≡ Some k → AreInRange n len k
+received_in_range channels n len c k (instr.Meet ways) v p e = received_within channels n len c k ways (guards channels n ways v).ruled p e
+received_in_range channels n len c k (instr.Evolve rates test ways next) v p e =
+    received_within channels n len c k ways
+    (guards channels n ways (bool.second_of (is_evolution n rates test (ios_of ways)) (are_guards channels n (ios_of ways)) v)).ruled
+    (bool.first_of (list_all (λ w. nat_lt w.next len) ways) (nat_lt next len) p) e
+received_in_range channels n len c k (instr.Skip next) v p e = cc
+received_in_range channels n len c k (instr.Again next) v p e = cc
+received_in_range channels n len c k (instr.Assign x value next) v p e = cc
+received_in_range channels n len c k (instr.Log value next) v p e = cc
+received_in_range channels n len c k (instr.Test test first second) v p e = cc
+received_in_range channels n len c k (instr.Pick left right) v p e = cc
+received_in_range channels n len c k (instr.Wait value next) v p e = cc
+received_in_range channels n len c k instr.End v p e = cc
 
 -- ---- sending
 
@@ -110,7 +117,7 @@ pub record LeadsBehind (t : Table) (found : Option ℕ) (todo : List Stmt) : Typ
   pub is : found ≡ Some next
   pub at : At t next todo
 
-module _ (t : Table) (c : ℕ) (s : Store) (rest : List Stmt) where
+module _ (t : Table) (c : ℕ) (s : Store) (r : Rates) (rest : List Stmt) where
   sent_if : (b : Bool) (v : Rational) (next : ℕ) (front other : List Stmt) (others : Option Rational) (later : Option ℕ) → At t next (front ++ rest) →
       (others ≢ None → LeadsBehind t later (other ++ rest)) → first_of (if b then Some v else None) others ≢ None →
       LeadsBehind t (first_of (if b then Some next else None) later) ((if b then front else other) ++ rest)
@@ -118,19 +125,19 @@ module _ (t : Table) (c : ℕ) (s : Store) (rest : List Stmt) where
   sent_if false v next front other others later at ih h = ih h
 
   sent_step : (io : Io) (next : ℕ) (front other : List Stmt) (others : Option Rational) (later : Option ℕ) → At t next (front ++ rest) →
-      (others ≢ None → LeadsBehind t later (other ++ rest)) → first_of (offer_sent_on c (offer_of s [] io)) others ≢ None →
+      (others ≢ None → LeadsBehind t later (other ++ rest)) → first_of (offer_sent_on c (offer_of s r io)) others ≢ None →
       LeadsBehind t (first_of (if_sends c next io) later) (comm.if_sends c io front other ++ rest)
   sent_step (Send channel value) next front other others later at ih h = sent_if (channel == c) _ next front other others later at ih h
   sent_step (Receive channel variable) next front other others later at ih h = ih h
 
-  ways_sent : (ws : List Way) (bs : List Branch) → WaysAgree t rest ws bs → sent_on c (offers_of s [] bs) ≢ None →
+  ways_sent : (ws : List Way) (bs : List Branch) → WaysAgree t rest ws bs → sent_on c (offers_of s r bs) ≢ None →
       LeadsBehind t (sent_way c ws) (comm.sent_branch c bs ++ rest)
   ways_sent [] [] w h = absurd (h refl)
   ways_sent [] (b ∷ bs) w h = absurd w
   ways_sent (x ∷ ws) [] w h = absurd w
   ways_sent (x ∷ ws) (b ∷ bs) w h =
       subst (λ (io : Io). LeadsBehind t (first_of (if_sends c x.next io) (sent_way c ws)) (comm.sent_branch c (b ∷ bs) ++ rest)) (sym w.0)
-      (sent_step (out-Branch b).io x.next (out-Branch b).body (comm.sent_branch c bs) (sent_on c (offers_of s [] bs)) (sent_way c ws) w.1
+      (sent_step (out-Branch b).io x.next (out-Branch b).body (comm.sent_branch c bs) (sent_on c (offers_of s r bs)) (sent_way c ws) w.1
       (ways_sent ws bs w.2) h)
 
   abbrev nothing : List Stmt
@@ -144,38 +151,41 @@ module _ (t : Table) (c : ℕ) (s : Store) (rest : List Stmt) where
   nothing_in_front (Send channel value) = nothing_by (channel == c)
   nothing_in_front (Receive channel variable) = refl
 
-  one_sent : (io : Io) (next : ℕ) → At t next rest → sent_on c (offer_of s [] io ∷ []) ≢ None →
+  one_sent : (io : Io) (next : ℕ) → At t next rest → sent_on c (offer_of s r io ∷ []) ≢ None →
       LeadsBehind t (sent_way c (record { io = io; next = next } ∷ [])) rest
   one_sent io next at h =
       subst (λ (front : List Stmt). LeadsBehind t (sent_way c (record { io = io; next = next } ∷ [])) (front ++ rest)) (nothing_in_front io)
       (sent_step io next [] [] None None at (λ n. absurd (n refl)) h)
 
-pub no_evolution : {A : Type 0} (n : ℕ) (i : Instr) (rates : List Rate) (test : Cond) (ways : List Way) (next : ℕ) → i ≡ instr.Evolve rates test ways next →
-    IsTrue (has_values n i) → A
-no_evolution n i rates test ways next e v = absurd (false≢true (sym (ap (has_values n) e) ∙ v))
+unless_due : (c : ℕ) (due : Bool) (os : List Offer) → sent_on c (if due then [] else os) ≢ None → sent_on c os ≢ None
+unless_due c true os h = absurd (h refl)
+unless_due c false os h = h
 
-sent_here : (t : Table) (c n : ℕ) (s : Store) (b : Option Rational) (i : Instr) (head : Stmt) (rest : List Stmt) (l : Layer) → IsTrue (has_values n i) →
+sent_here : (t : Table) (c : ℕ) (s : Store) (b : Option Rational) (i : Instr) (head : Stmt) (rest : List Stmt) (l : Layer) →
     AgreesHere t i head rest l → sent_on c (offers_here s b l) ≢ None → LeadsBehind t (sent_way c (ways_of i)) (comm.sent_here c l ++ rest)
-sent_here t c n s b i head rest (Stmt-F.Io io) v h g =
-    subst (λ (j : Instr). LeadsBehind t (sent_way c (ways_of j)) rest) (sym h.1) (one_sent t c s rest io h.0 h.2 g)
-sent_here t c n s b i head rest (Stmt-F.Choice bs) v h g =
-    subst (λ (j : Instr). LeadsBehind t (sent_way c (ways_of j)) (comm.sent_branch c bs ++ rest)) (sym h.1) (ways_sent t c s rest h.0 bs h.2 g)
-sent_here t c n s b i head rest (Stmt-F.Evolve rates test bs) v h g = no_evolution n i rates test h.0 h.1 h.2 v
-sent_here t c n s b i head rest Stmt-F.Skip v h g = absurd (g refl)
-sent_here t c n s b i head rest (Stmt-F.Assign x e) v h g = absurd (g refl)
-sent_here t c n s b i head rest (Stmt-F.Log e) v h g = absurd (g refl)
-sent_here t c n s b i head rest (Stmt-F.Wait e) v h g = absurd (g refl)
-sent_here t c n s b i head rest (Stmt-F.If test first second) v h g = absurd (g refl)
-sent_here t c n s b i head rest (Stmt-F.Loop test body) v h g = absurd (g refl)
-sent_here t c n s b i head rest (Stmt-F.Pick left right) v h g = absurd (g refl)
-sent_here t c n s b i head rest (Stmt-F.Forever body) v h g = absurd (g refl)
+sent_here t c s b i head rest (Stmt-F.Io io) h g =
+    subst (λ (j : Instr). LeadsBehind t (sent_way c (ways_of j)) rest) (sym h.1) (one_sent t c s [] rest io h.0 h.2 g)
+sent_here t c s b i head rest (Stmt-F.Choice bs) h g =
+    subst (λ (j : Instr). LeadsBehind t (sent_way c (ways_of j)) (comm.sent_branch c bs ++ rest)) (sym h.1) (ways_sent t c s [] rest h.0 bs h.2 g)
+sent_here t c s b i head rest (Stmt-F.Evolve rates test bs) h g =
+    let r = rates_in rates s in
+    subst (λ (j : Instr). LeadsBehind t (sent_way c (ways_of j)) (comm.sent_branch c bs ++ rest)) (sym h.2)
+    (ways_sent t c s r rest h.0 bs h.3 (unless_due c (is_due b) (offers_of s r bs) g))
+sent_here t c s b i head rest Stmt-F.Skip h g = absurd (g refl)
+sent_here t c s b i head rest (Stmt-F.Assign x e) h g = absurd (g refl)
+sent_here t c s b i head rest (Stmt-F.Log e) h g = absurd (g refl)
+sent_here t c s b i head rest (Stmt-F.Wait e) h g = absurd (g refl)
+sent_here t c s b i head rest (Stmt-F.If test first second) h g = absurd (g refl)
+sent_here t c s b i head rest (Stmt-F.Loop test body) h g = absurd (g refl)
+sent_here t c s b i head rest (Stmt-F.Pick left right) h g = absurd (g refl)
+sent_here t c s b i head rest (Stmt-F.Forever body) h g = absurd (g refl)
 
 -- where a process sends that offers to send on the channel
-pub sent_leads : (t : Table) (c n : ℕ) (clock : Rational) (s : Store) (m : Mark) (todo : List Stmt) (i : Instr) → IsTrue (has_values n i) → Agrees t i todo →
+pub sent_leads : (t : Table) (c : ℕ) (clock : Rational) (s : Store) (m : Mark) (todo : List Stmt) (i : Instr) → Agrees t i todo →
     sent_on c (post_at clock s (bound_at s m todo) m todo).offers ≢ None → LeadsBehind t (sent_way c (ways_of i)) (comm.sent_at c todo)
-sent_leads t c n clock s m [] i v h g = absurd (g refl)
-sent_leads t c n clock s Going (head ∷ rest) i v h g = absurd (g refl)
-sent_leads t c n clock s (Arrived left) (head ∷ rest) i v h g = sent_here t c n s (bound_here s left (out-Stmt head)) i head rest (out-Stmt head) v h g
+sent_leads t c clock s m [] i h g = absurd (g refl)
+sent_leads t c clock s Going (head ∷ rest) i h g = absurd (g refl)
+sent_leads t c clock s (Arrived left) (head ∷ rest) i h g = sent_here t c s (bound_here s left (out-Stmt head)) i head rest (out-Stmt head) h g
 
 -- ---- receiving
 
@@ -189,7 +199,7 @@ pub record TakesBehind (t : Table) (found : Option Taken) (variable : ℕ) (todo
 abbrev Behind : Table → Option Taken → comm.Taken → List Stmt → Type 0
 Behind t found k rest = TakesBehind t found k.0 (k.1 ++ rest)
 
-module _ (t : Table) (c : ℕ) (s : Store) (rest : List Stmt) where
+module _ (t : Table) (c : ℕ) (s : Store) (r : Rates) (rest : List Stmt) where
   received_if : (b : Bool) (variable next : ℕ) (front : List Stmt) (other : comm.Taken) (others : Bool) (later : Option Taken) → At t next (front ++ rest) →
       (others ≡ true → Behind t later other rest) → (b || others) ≡ true →
       Behind t (first_of (if b then Some (record { variable = variable; next = next }) else None) later) (if b then (variable, front) else other) rest
@@ -198,37 +208,44 @@ module _ (t : Table) (c : ℕ) (s : Store) (rest : List Stmt) where
   received_if false variable next front other others later at ih h = ih h
 
   received_step : (io : Io) (next : ℕ) (front : List Stmt) (other : comm.Taken) (others : Bool) (later : Option Taken) → At t next (front ++ rest) →
-      (others ≡ true → Behind t later other rest) → (offer_receives_on c (offer_of s [] io) || others) ≡ true →
+      (others ≡ true → Behind t later other rest) → (offer_receives_on c (offer_of s r io) || others) ≡ true →
       Behind t (first_of (if_receives c next io) later) (comm.if_receives c io front other) rest
   received_step (Send channel value) next front other others later at ih h = ih h
   received_step (Receive channel variable) next front other others later at ih h = received_if (channel == c) variable next front other others later at ih h
 
-  ways_received : (ws : List Way) (bs : List Branch) → WaysAgree t rest ws bs → receives_on c (offers_of s [] bs) ≡ true →
+  ways_received : (ws : List Way) (bs : List Branch) → WaysAgree t rest ws bs → receives_on c (offers_of s r bs) ≡ true →
       Behind t (received_way c ws) (comm.received_branch c bs) rest
   ways_received [] [] w h = absurd (false≢true h)
   ways_received [] (b ∷ bs) w h = absurd w
   ways_received (x ∷ ws) [] w h = absurd w
   ways_received (x ∷ ws) (b ∷ bs) w h =
       subst (λ (io : Io). Behind t (first_of (if_receives c x.next io) (received_way c ws)) (comm.received_branch c (b ∷ bs)) rest) (sym w.0)
-      (received_step (out-Branch b).io x.next (out-Branch b).body (comm.received_branch c bs) (receives_on c (offers_of s [] bs)) (received_way c ws) w.1
+      (received_step (out-Branch b).io x.next (out-Branch b).body (comm.received_branch c bs) (receives_on c (offers_of s r bs)) (received_way c ws) w.1
       (ways_received ws bs w.2) h)
 
-received_here : (t : Table) (c n : ℕ) (s : Store) (b : Option Rational) (i : Instr) (head : Stmt) (rest : List Stmt) (l : Layer) → IsTrue (has_values n i) →
+receives_unless_due : (c : ℕ) (due : Bool) (os : List Offer) → receives_on c (if due then [] else os) ≡ true → receives_on c os ≡ true
+receives_unless_due c true os h = absurd (false≢true h)
+receives_unless_due c false os h = h
+
+received_here : (t : Table) (c : ℕ) (s : Store) (b : Option Rational) (i : Instr) (head : Stmt) (rest : List Stmt) (l : Layer) →
     AgreesHere t i head rest l → receives_on c (offers_here s b l) ≡ true → Behind t (received_way c (ways_of i)) (comm.received_here c l) rest
-received_here t c n s b i head rest (Stmt-F.Io io) v h g =
+received_here t c s b i head rest (Stmt-F.Io io) h g =
     subst (λ (j : Instr). Behind t (received_way c (ways_of j)) (comm.if_receives c io [] (0, [])) rest) (sym h.1)
-    (received_step t c s rest io h.0 [] (0, []) false None h.2 (λ e. absurd (false≢true e)) g)
-received_here t c n s b i head rest (Stmt-F.Choice bs) v h g =
-    subst (λ (j : Instr). Behind t (received_way c (ways_of j)) (comm.received_branch c bs) rest) (sym h.1) (ways_received t c s rest h.0 bs h.2 g)
-received_here t c n s b i head rest (Stmt-F.Evolve rates test bs) v h g = no_evolution n i rates test h.0 h.1 h.2 v
-received_here t c n s b i head rest Stmt-F.Skip v h g = absurd (false≢true g)
-received_here t c n s b i head rest (Stmt-F.Assign x e) v h g = absurd (false≢true g)
-received_here t c n s b i head rest (Stmt-F.Log e) v h g = absurd (false≢true g)
-received_here t c n s b i head rest (Stmt-F.Wait e) v h g = absurd (false≢true g)
-received_here t c n s b i head rest (Stmt-F.If test first second) v h g = absurd (false≢true g)
-received_here t c n s b i head rest (Stmt-F.Loop test body) v h g = absurd (false≢true g)
-received_here t c n s b i head rest (Stmt-F.Pick left right) v h g = absurd (false≢true g)
-received_here t c n s b i head rest (Stmt-F.Forever body) v h g = absurd (false≢true g)
+    (received_step t c s [] rest io h.0 [] (0, []) false None h.2 (λ e. absurd (false≢true e)) g)
+received_here t c s b i head rest (Stmt-F.Choice bs) h g =
+    subst (λ (j : Instr). Behind t (received_way c (ways_of j)) (comm.received_branch c bs) rest) (sym h.1) (ways_received t c s [] rest h.0 bs h.2 g)
+received_here t c s b i head rest (Stmt-F.Evolve rates test bs) h g =
+    let r = rates_in rates s in
+    subst (λ (j : Instr). Behind t (received_way c (ways_of j)) (comm.received_branch c bs) rest) (sym h.2)
+    (ways_received t c s r rest h.0 bs h.3 (receives_unless_due c (is_due b) (offers_of s r bs) g))
+received_here t c s b i head rest Stmt-F.Skip h g = absurd (false≢true g)
+received_here t c s b i head rest (Stmt-F.Assign x e) h g = absurd (false≢true g)
+received_here t c s b i head rest (Stmt-F.Log e) h g = absurd (false≢true g)
+received_here t c s b i head rest (Stmt-F.Wait e) h g = absurd (false≢true g)
+received_here t c s b i head rest (Stmt-F.If test first second) h g = absurd (false≢true g)
+received_here t c s b i head rest (Stmt-F.Loop test body) h g = absurd (false≢true g)
+received_here t c s b i head rest (Stmt-F.Pick left right) h g = absurd (false≢true g)
+received_here t c s b i head rest (Stmt-F.Forever body) h g = absurd (false≢true g)
 
 -- what a process receives that offers to receive on the channel: the definition sets this variable and goes on at these statements
 pub record Receives (t : Table) (c : ℕ) (v : Rational) (p : ProcessState) (todo : List Stmt) (found : Option Taken) : Type 0 where
@@ -237,29 +254,24 @@ pub record Receives (t : Table) (c : ℕ) (v : Rational) (p : ProcessState) (tod
   pub same : comm.received_at c v p todo ≡ record p { todo = rest; store = slice_set p.store variable v; mark = Going }
   pub takes : TakesBehind t found variable rest
 
-pub received_leads : (t : Table) (c n : ℕ) (clock v : Rational) (p : ProcessState) (s : Store) (m : Mark) (todo : List Stmt) (i : Instr) → IsTrue (has_values n i) →
-    Agrees t i todo → receives_on c (post_at clock s (bound_at s m todo) m todo).offers ≡ true → Receives t c v p todo (received_way c (ways_of i))
-received_leads t c n clock v p s m [] i u h g = absurd (false≢true g)
-received_leads t c n clock v p s Going (head ∷ rest) i u h g = absurd (false≢true g)
-received_leads t c n clock v p s (Arrived left) (head ∷ rest) i u h g = record {
+pub received_leads : (t : Table) (c : ℕ) (clock v : Rational) (p : ProcessState) (s : Store) (m : Mark) (todo : List Stmt) (i : Instr) → Agrees t i todo → receives_on c (post_at clock s (bound_at s m todo) m todo).offers ≡ true → Receives t c v p todo (received_way c (ways_of i))
+received_leads t c clock v p s m [] i h g = absurd (false≢true g)
+received_leads t c clock v p s Going (head ∷ rest) i h g = absurd (false≢true g)
+received_leads t c clock v p s (Arrived left) (head ∷ rest) i h g = record {
   variable = (comm.received_here c (out-Stmt head)).0;
   rest = (comm.received_here c (out-Stmt head)).1 ++ rest;
   same = refl;
-  takes = received_here t c n s (bound_here s left (out-Stmt head)) i head rest (out-Stmt head) u h g;
+  takes = received_here t c s (bound_here s left (out-Stmt head)) i head rest (out-Stmt head) h g;
 }
 
 -- ---- what a usable code keeps
 
-pub sent_place : (n place c m : ℕ) (code : List Instr) (i : Instr) → IsTrue (is_usable_code n code) → slice_get code place ≡ Some i →
+pub sent_place : (n place c m : ℕ) (code : List Instr) (i : Instr) → IsUsable n code → slice_get code place ≡ Some i →
     sent_way c (ways_of i) ≡ Some m → m < length code
-sent_place n place c m code i u at e =
-    let usable = usable_at n (length code) code place i u at in
-    sent_in_range n (length code) c m i (bool.first_of (has_values n i) (has_places (length code) i) usable)
-    (bool.second_of (has_values n i) (has_places (length code) i) usable) e
+sent_place n place c m code i u at e = sent_in_range (length code) c m i (places_at n code place i u at) e
 
-pub received_place : (n place c : ℕ) (k : Taken) (code : List Instr) (i : Instr) → IsTrue (is_usable_code n code) → slice_get code place ≡ Some i →
+pub received_place : (n place c : ℕ) (k : Taken) (code : List Instr) (i : Instr) → IsUsable n code → slice_get code place ≡ Some i →
     received_way c (ways_of i) ≡ Some k → AreInRange n (length code) k
 received_place n place c k code i u at e =
-    let usable = usable_at n (length code) code place i u at in
-    received_in_range n (length code) c k i (bool.first_of (has_values n i) (has_places (length code) i) usable)
-    (bool.second_of (has_values n i) (has_places (length code) i) usable) e
+    let ruled = rules_at n n code place i u at refl in
+    received_in_range ruled.0 n (length code) c k i ruled.1 (places_at n code place i u at) e

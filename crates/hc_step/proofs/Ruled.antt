@@ -1,24 +1,22 @@
--- The code of a process that keeps the rules can be run, where it has no evolution.
-use Rattle.std.proofs.Common.{◌≡◌, refl, sym, ap, subst, arith, ℕ, zero, suc, ◌+◌, ◌<◌, true, not, ◌&&◌, IsTrue, List, [], ◌∷◌, ◌++◌, length, Some}
+-- The code of a process that keeps the rules can be run, with its own number of variables or more.
+use Rattle.std.proofs.Common.{◌≡◌, refl, sym, ap, subst, arith, ℕ, zero, suc, ◌<◌, true, ◌&&◌, IsTrue, List, [], ◌∷◌, ◌++◌, length, Some}
 use Rattle.std.specs.Prelude.{slice_get, nat_lt, nat_le}
 use Rattle.std.specs.List.{list_all}
-use Rattle.std.proofs.lemmas.Bool.{lt-ltb, leb-true}
-use Rattle.std.proofs.lemmas.List.{length-map}
-use Rattle.hc_term.specs.declared.stmt.Io.{Io}
-use Rattle.hc_term.specs.declared.stmt.Io.TheVariants.{Send, Receive}
+use Rattle.std.proofs.lemmas.Bool.{lt-ltb}
 use Rattle.hc_term.specs.declared.stmt.Stmt.{Stmt, out-Stmt}
 use Rattle.hc_term.specs.declared.stmt.Stmt.TheOpen.{Stmt-F}
 use Rattle.hc_term.specs.declared.stmt.Branch.{Branch}
 use Rattle.hc_term.specs.Process.{Layer}
-use Rattle.hc_term.specs.Profile.{is_expr, is_io, is_same_io, all_apart}
 use Rattle.hc_term.specs.Rules.{is_stmt}
 use Rattle.hc_code.specs.declared.code.Way.{Way}
 use Rattle.hc_code.specs.declared.code.Instr.{Instr}
 use Rattle.hc_code.specs.declared.code.Instr.TheVariants as instr
-use Rattle.hc_code.specs.Kept.{ios_of, is_instr}
+use Rattle.hc_code.specs.Kept.{is_instr}
 use Rattle.hc_code.specs.Stands.{Table, At, AgreesHere, WaysAgree, Agrees, AllAgree}
 use Rattle.hc_code.proofs.Growing.{both, first_of, second_of}
-use Rattle.hc_step.specs.Usable.{has_values_io, has_values, has_places, evolves, is_still, is_usable}
+use Rattle.hc_step.specs.Usable.{has_places, is_usable}
+use Rattle.hc_step.proofs.Evolves.{all_weaker}
+use Rattle.hc_step.proofs.Wider.{instr_more}
 use Rattle.hc_step.specs.Laws.{RuledCodesAreUsable}
 
 -- ---- places
@@ -73,59 +71,25 @@ module _ (t : Table) (len : ℕ) (even : length t ≡ len) where
   placed i [] h = placed_by i instr.End h refl
   placed i (head ∷ rest) h = placed_here i head rest (out-Stmt head) h
 
--- ---- expressions and variables
-
-valued_io : (channels n : ℕ) (io : Io) → IsTrue (is_io channels n io) → IsTrue (has_values_io n io)
-valued_io channels n (Send channel value) h = second_of (nat_lt channel channels) (is_expr n value) h
-valued_io channels n (Receive channel variable) h = second_of (nat_lt channel channels) (nat_lt variable n) h
-
-valued_ways : (channels n : ℕ) (ws : List Way) → IsTrue (list_all (is_io channels n) (ios_of ws)) → IsTrue (list_all (λ w. has_values_io n w.io) ws)
-valued_ways channels n [] h = refl
-valued_ways channels n (w ∷ ws) h =
-    both (has_values_io n w.io) (list_all (λ w. has_values_io n w.io) ws)
-    (valued_io channels n w.io (first_of (is_io channels n w.io) (list_all (is_io channels n) (ios_of ws)) h))
-    (valued_ways channels n ws (second_of (is_io channels n w.io) (list_all (is_io channels n) (ios_of ws)) h))
-
-named : (x n : ℕ) → IsTrue (nat_le (x + 1) n) → IsTrue (nat_lt x n)
-named x n h = lt-ltb x n (omega (arith, leb-true (x + 1) n h))
-
-valued : (channels n : ℕ) (i : Instr) → IsTrue (is_instr channels n i) → IsTrue (not (evolves i)) → IsTrue (has_values n i)
-valued channels n (instr.Skip next) h s = refl
-valued channels n (instr.Assign x e next) h s =
-    both (nat_lt x n) (is_expr n e) (named x n (first_of (nat_le (x + 1) n) (is_expr n e) h)) (second_of (nat_le (x + 1) n) (is_expr n e) h)
-valued channels n (instr.Log e next) h s = h
-valued channels n (instr.Wait e next) h s = h
-valued channels n (instr.Test c first second) h s = h
-valued channels n (instr.Pick left right) h s = refl
-valued channels n (instr.Again next) h s = refl
-valued channels n instr.End h s = refl
-valued channels n (instr.Meet ways) h s =
-    let front = first_of (nat_le (length (ios_of ways)) 32 && list_all (is_io channels n) (ios_of ways)) (all_apart is_same_io (ios_of ways)) h in
-    both (nat_le (length ways) 32) (list_all (λ w. has_values_io n w.io) ways)
-    (subst (λ (m : ℕ). IsTrue (nat_le m 32)) (length-map ways (λ (w : Way). w.io)) (first_of (nat_le (length (ios_of ways)) 32) (list_all (is_io channels n) (ios_of ways)) front))
-    (valued_ways channels n ways (second_of (nat_le (length (ios_of ways)) 32) (list_all (is_io channels n) (ios_of ways)) front))
-valued channels n (instr.Evolve rates c ways next) h s = cc
-
 -- ---- codes
 
 usable_all : (t ts : Table) (channels n len : ℕ) (code : List Instr) → length t ≡ len → AllAgree t code ts → IsTrue (list_all (is_instr channels n) code) →
-    IsTrue (is_still code) → IsTrue (list_all (is_usable n len) code)
-usable_all t [] channels n len [] even h k s = refl
-usable_all t [] channels n len (i ∷ is) even h k s = absurd h
-usable_all t (l ∷ ls) channels n len [] even h k s = absurd h
-usable_all t (l ∷ ls) channels n len (i ∷ is) even h k s =
-    both (is_usable n len i) (list_all (is_usable n len) is)
-    (both (has_values n i) (has_places len i)
-    (valued channels n i (first_of (is_instr channels n i) (list_all (is_instr channels n) is) k) (first_of (not (evolves i)) (is_still is) s))
-    (placed t len even i l h.0))
-    (usable_all t ls channels n len is even h.1 (second_of (is_instr channels n i) (list_all (is_instr channels n) is) k) (second_of (not (evolves i)) (is_still is) s))
+    IsTrue (list_all (is_usable channels n len) code)
+usable_all t [] channels n len [] even h k = refl
+usable_all t [] channels n len (i ∷ is) even h k = absurd h
+usable_all t (l ∷ ls) channels n len [] even h k = absurd h
+usable_all t (l ∷ ls) channels n len (i ∷ is) even h k =
+    both (is_usable channels n len i) (list_all (is_usable channels n len) is)
+    (both (is_instr channels n i) (has_places len i) (first_of (is_instr channels n i) (list_all (is_instr channels n) is) k) (placed t len even i l h.0))
+    (usable_all t ls channels n len is even h.1 (second_of (is_instr channels n i) (list_all (is_instr channels n) is) k))
 
 pub ruled_codes_are_usable : RuledCodesAreUsable
-ruled_codes_are_usable channels p code ruled stands keeps still =
+ruled_codes_are_usable channels n p code ruled stands keeps more =
     let t = stands.0 in
     let even : length t ≡ length code = same_length t t code stands.1.agree in
-    let n = length p.variables in
-    let body = second_of (nat_le n 64 && nat_le 1 (length p.body)) (list_all (is_stmt channels n) p.body) ruled in (
-      usable_all t t channels n (length code) code even stands.1.agree (keeps channels n body) still,
+    let own = length p.variables in
+    let body = second_of (nat_le own 64 && nat_le 1 (length p.body)) (list_all (is_stmt channels own) p.body) ruled in
+    let wide = all_weaker (is_instr channels own) (is_instr channels n) (instr_more own n more channels) code (keeps channels own body) in (
+      usable_all t t channels n (length code) code even stands.1.agree wide,
       omega (arith, even, in_table t 0 p.body stands.1.begins),
     )

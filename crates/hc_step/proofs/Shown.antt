@@ -1,5 +1,5 @@
 -- What a process shows that goes on or arrives at an instruction is what the definition has for a list that the instruction agrees with.
-use Rattle.std.proofs.Common.{◌≡◌, refl, sym, ap, ap₂, ◌∙◌, false, IsTrue, List, [], ◌∷◌, Option, None}
+use Rattle.std.proofs.Common.{◌≡◌, refl, sym, ap, ap₂, subst, ◌∙◌, true, false, List, [], ◌∷◌, Option, None}
 use Rattle.std.proofs.lemmas.Bool.{false≢true}
 use Rattle.hc_rational.specs.Words.{Rational}
 use Rattle.hc_term.specs.declared.stmt.Stmt.{Stmt, out-Stmt}
@@ -12,11 +12,14 @@ use Rattle.hc_term.specs.declared.post.Offer.{Offer}
 use Rattle.hc_term.specs.declared.model.Mark.TheVariants.{Going, Arrived}
 use Rattle.hc_term.specs.Value.{Store}
 use Rattle.hc_term.specs.Process.{Layer, bound_here, bound_at}
-use Rattle.hc_term.specs.Offers.{offer_of, offers_of, offers_here, moving_here, due_of, post_at}
+use Rattle.hc_term.specs.Offers.{offer_of, offers_of, offers_here, moving_of, moving_here, due_of, post_at}
+use Rattle.hc_term.specs.Motion.{Rates, rates_in}
+use Rattle.hc_term.specs.EndMoment.{end_moment}
 use Rattle.hc_code.specs.declared.code.Way.{Way}
 use Rattle.hc_code.specs.declared.code.Instr.{Instr}
 use Rattle.hc_code.specs.Stands.{Table, AgreesHere, WaysAgree, Agrees}
-use Rattle.hc_step.specs.Taking.{phase_of, plain_post, arrived_post, offers_in, post_of, may_arrive}
+use Rattle.hc_step.specs.Taking.{phase_of}
+use Rattle.hc_step.specs.Arriving.{is_stay, left_at, plain_post, arrived_post, offers_before, offers_in, post_of}
 
 -- ---- going on
 
@@ -41,19 +44,16 @@ going_shows t clock s b i (head ∷ rest) h = ap plain_post (still_going t i hea
 
 -- ---- arriving
 
-pub ways_offer : (t : Table) (s : Store) (rest : List Stmt) (ways : List Way) (bs : List Branch) → WaysAgree t rest ways bs →
-    offers_in s ways ≡ offers_of s [] bs
-ways_offer t s rest [] [] h = refl
-ways_offer t s rest [] (b ∷ bs) h = absurd h
-ways_offer t s rest (w ∷ ws) [] h = absurd h
-ways_offer t s rest (w ∷ ws) (b ∷ bs) h =
-    ap₂ (λ (o : Offer) (os : List Offer). o ∷ os) (ap (λ (io : Io). offer_of s [] io) h.0) (ways_offer t s rest ws bs h.2)
+pub ways_offer : (t : Table) (s : Store) (r : Rates) (rest : List Stmt) (ways : List Way) (bs : List Branch) → WaysAgree t rest ways bs →
+    offers_in s r ways ≡ offers_of s r bs
+ways_offer t s r rest [] [] h = refl
+ways_offer t s r rest [] (b ∷ bs) h = absurd h
+ways_offer t s r rest (w ∷ ws) [] h = absurd h
+ways_offer t s r rest (w ∷ ws) (b ∷ bs) h =
+    ap₂ (λ (o : Offer) (os : List Offer). o ∷ os) (ap (λ (io : Io). offer_of s r io) h.0) (ways_offer t s r rest ws bs h.2)
 
--- no process arrives at another instruction
-never : (s : Store) (clock left : Rational) (i j : Instr) (p q : Post) → may_arrive s clock left j ≡ false → i ≡ j → IsTrue (may_arrive s clock left i) → p ≡ q
-never s clock left i j p q n e m = absurd (false≢true (sym n ∙ (sym (ap (may_arrive s clock left) e) ∙ m)))
-
-abbrev post_here : Rational → Store → Rational → Layer → Post
+-- what a process shows that has arrived at a statement
+abbrev pub post_here : Rational → Store → Rational → Layer → Post
 post_here clock s left l = record {
   phase = phase.Arrived;
   bound = bound_here s left l;
@@ -62,22 +62,33 @@ post_here clock s left l = record {
   offers = offers_here s (bound_here s left l) l;
 }
 
-arrived_here : (t : Table) (clock left : Rational) (s : Store) (i : Instr) (head : Stmt) (rest : List Stmt) (l : Layer) → AgreesHere t i head rest l →
-    IsTrue (may_arrive s clock left i) → post_of s clock left i ≡ post_here clock s left l
-arrived_here t clock left s i head rest Stmt-F.Skip h m = never s clock left i _ _ _ refl h.1 m
-arrived_here t clock left s i head rest (Stmt-F.Assign x e) h m = never s clock left i _ _ _ refl h.1 m
-arrived_here t clock left s i head rest (Stmt-F.Log e) h m = never s clock left i _ _ _ refl h.1 m
-arrived_here t clock left s i head rest (Stmt-F.Wait e) h m = ap (post_of s clock left) h.1
-arrived_here t clock left s i head rest (Stmt-F.If c first second) h m = never s clock left i _ _ _ refl h.2 m
-arrived_here t clock left s i head rest (Stmt-F.Loop c body) h m = never s clock left i _ _ _ refl h.2 m
-arrived_here t clock left s i head rest (Stmt-F.Pick first second) h m = never s clock left i _ _ _ refl h.2 m
-arrived_here t clock left s i head rest (Stmt-F.Forever body) h m = never s clock left i _ _ _ refl h.1 m
-arrived_here t clock left s i head rest (Stmt-F.Io io) h m = ap (post_of s clock left) h.1
-arrived_here t clock left s i head rest (Stmt-F.Choice bs) h m =
-    ap (post_of s clock left) h.1 ∙ ap (arrived_post clock None) (ways_offer t s rest h.0 bs h.2)
-arrived_here t clock left s i head rest (Stmt-F.Evolve rates c bs) h m = never s clock left i _ _ _ refl h.2 m
+-- no process arrives at another instruction
+pub never : {A : Type 0} (i j : Instr) → i ≡ j → is_stay j ≡ false → is_stay i ≡ true → A
+never i j e k u = absurd (false≢true (sym k ∙ (ap is_stay (sym e) ∙ u)))
 
-pub arrived_shows : (t : Table) (clock left : Rational) (s : Store) (i : Instr) (todo : List Stmt) → Agrees t i todo → IsTrue (may_arrive s clock left i) →
-    post_of s clock left i ≡ post_at clock s (bound_at s (Arrived left) todo) (Arrived left) todo
-arrived_shows t clock left s i [] h m = never s clock left i _ _ _ refl h m
-arrived_shows t clock left s i (head ∷ rest) h m = arrived_here t clock left s i head rest (out-Stmt head) h m
+module _ (t : Table) (clock : Rational) (s : Store) (i : Instr) where
+  abbrev Shows : Layer → Instr → Type 0
+  Shows l j = post_of clock s j ≡ post_here clock s (left_at s j) l
+
+  arrived_here : (head : Stmt) (rest : List Stmt) (l : Layer) → AgreesHere t i head rest l → is_stay i ≡ true → Shows l i
+  arrived_here head rest Stmt-F.Skip h m = never i _ h.1 refl m
+  arrived_here head rest (Stmt-F.Assign x e) h m = never i _ h.1 refl m
+  arrived_here head rest (Stmt-F.Log e) h m = never i _ h.1 refl m
+  arrived_here head rest (Stmt-F.Wait e) h m = subst (Shows (Stmt-F.Wait e)) (sym h.1) refl
+  arrived_here head rest (Stmt-F.If c first second) h m = never i _ h.2 refl m
+  arrived_here head rest (Stmt-F.Loop c body) h m = never i _ h.2 refl m
+  arrived_here head rest (Stmt-F.Pick first second) h m = never i _ h.2 refl m
+  arrived_here head rest (Stmt-F.Forever body) h m = never i _ h.1 refl m
+  arrived_here head rest (Stmt-F.Io io) h m = subst (Shows (Stmt-F.Io io)) (sym h.1) refl
+  arrived_here head rest (Stmt-F.Choice bs) h m =
+      subst (Shows (Stmt-F.Choice bs)) (sym h.1) (ap (arrived_post clock None []) (ways_offer t s [] rest h.0 bs h.2))
+  arrived_here head rest (Stmt-F.Evolve rates c bs) h m =
+      let r = rates_in rates s in
+      let b = end_moment s r c in
+      subst (Shows (Stmt-F.Evolve rates c bs)) (sym h.2)
+      (ap (λ (os : List Offer). arrived_post clock b (moving_of s rates) (offers_before b os)) (ways_offer t s r rest h.0 bs h.3))
+
+  pub arrived_shows : (todo : List Stmt) → Agrees t i todo → is_stay i ≡ true →
+      post_of clock s i ≡ post_at clock s (bound_at s (Arrived (left_at s i)) todo) (Arrived (left_at s i)) todo
+  arrived_shows [] h m = never i _ h refl m
+  arrived_shows (head ∷ rest) h m = arrived_here head rest (out-Stmt head) h m

@@ -1,5 +1,6 @@
 pub mod Usable
 pub mod Looking
+pub mod Arriving
 pub mod Taking
 pub mod Ways
 pub mod Delaying

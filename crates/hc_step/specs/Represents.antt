@@ -1,8 +1,10 @@
 -- The configurations of a process for which a local stands.
-use Rattle.std.specs.Prelude.{◌≡◌, ◌<◌, ◌+◌, ◌%◌, ℕ, List, length, take, replicate, slice_set, Option, Some, None, Ok, Err}
+use Rattle.std.specs.Prelude.{◌≡◌, ◌<◌, ◌+◌, ◌-◌, ◌%◌, ℕ, List, [], ◌∷◌, ◌++◌, length, take, replicate, slice_set, Option, Some, None, Ok, Err}
 use Rattle.hc_rational.specs.Words.{Rational, zero_ℚ}
 use Rattle.hc_term.specs.declared.stmt.Stmt.{Stmt}
-use Rattle.hc_term.specs.declared.model.Mark.TheVariants.{Going, Arrived}
+use Rattle.hc_term.specs.declared.model.Mark.TheVariants.{Going}
+use Rattle.hc_term.specs.declared.run.StretchEnd.{StretchEnd}
+use Rattle.hc_term.specs.declared.run.StretchEnd.TheVariants as ends
 use Rattle.hc_term.specs.declared.model.ProcessState.{ProcessState}
 use Rattle.hc_term.specs.Silent.{Outcome, Idle, Unfit, Did}
 use Rattle.hc_term.specs.Offers.{post, going_post}
@@ -27,10 +29,22 @@ pub record Carries (l : Local) (q : ProcessState) : Type 0 where
   pub same_store : take l.variables l.store ≡ q.store
   pub same_choices : l.choices ≡ q.choices % 64
 
+-- what each step of a stretch logged: nothing, but for the last one where it ends with a log
+abbrev pub logs_by : ℕ → StretchEnd → List (Option Rational)
+logs_by n (ends.Logged v) = replicate (n - 1) None ++ Some v ∷ []
+logs_by n ends.Waits = replicate n None
+logs_by n ends.Ended = replicate n None
+logs_by n ends.Unfit = replicate n None
+logs_by n ends.Spent = replicate n None
+
+abbrev pub logs_of : Stretch → List (Option Rational)
+logs_of s = logs_by s.steps s.end
+
 -- a stretch takes exactly the silent steps that the definition has, of each configuration for which the local stands
 pub record Takes (t : Table) (clock : Rational) (s : Stretch) (new : Local) (g : Progress) : Type 0 where
   pub counted : s.steps ≡ length g.logs
   pub ended : s.end ≡ g.end
+  pub logged : g.logs ≡ logs_of s
   pub stands : Represents t clock new g.next
 
 -- ---- one step, looked at before it is taken
@@ -45,7 +59,6 @@ LeadsTo t q (move.Logs v place) logged next =
     (rest : List Stmt) × At t place rest × (logged ≡ Some v) × (next ≡ record q { todo = rest; mark = Going })
 LeadsTo t q (move.Picks place) logged next =
     (rest : List Stmt) × At t place rest × (logged ≡ None) × (next ≡ record q { todo = rest; choices = q.choices + 1; mark = Going })
-LeadsTo t q (move.Arrives left) logged next = (logged ≡ None) × (next ≡ record q { mark = Arrived left })
 
 -- what is seen of the silent step: there is none, or it doesn't fit, or it is this move
 abbrev pub Sees : Table → ProcessState → Outcome → Seen → Type 0

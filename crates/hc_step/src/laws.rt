@@ -3,6 +3,6 @@
 ghost use Rattle.hc_step.specs.Laws.{RuledCodesAreUsable};
 
 /// What holds of every code. There is nothing to run: the clause is the law.
-pub fn codes()
+pub fn code_laws()
     ensures usable { RuledCodesAreUsable }
 {}

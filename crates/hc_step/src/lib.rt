@@ -1,15 +1,16 @@
 //! What a process keeps between its steps, and the steps of one process on its flat code.
 #![tactic(auto)]
 
+mod arrival;
 mod delay;
 mod laws;
 mod local;
 mod look;
 mod meeting;
-mod posting;
+mod same;
 mod stretch;
 mod taking;
 
-pub use laws::codes;
+pub use laws::code_laws;
 pub use local::Local;
 pub use stretch::Stretch;

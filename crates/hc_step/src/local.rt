@@ -1,9 +1,10 @@
 //! What a process keeps between its steps.
 
-ghost use Rattle.std.specs.Prelude.{◌≡◌, ◌≤◌, ◌<◌, length, take, replicate, IsTrue};
+ghost use Rattle.std.specs.Prelude.{◌≡◌, ◌≤◌, ◌<◌, length, take, replicate};
 ghost use Rattle.hc_rational.specs.Words.{zero_ℚ};
-ghost use Rattle.hc_step.specs.Usable.{is_usable_code};
+ghost use Rattle.hc_step.specs.Usable.{IsUsable};
 
+use crate::arrival::is_stay;
 use crate::look::{Move, look_arrived, look_at, takes_left};
 use hc_code::ProcCode;
 use hc_frac::Frac;
@@ -34,15 +35,17 @@ fn zeros() -> [Frac; 64]
 }
 
 impl Local {
-    ghost use Rattle.std.specs.Prelude.{Ok, Some, IfOk, is_ok};
+    ghost use Rattle.std.specs.Prelude.{Ok, Some, IfOk, IsTrue, is_ok, false, slice_get};
     ghost use Rattle.hc_rational.specs.Words.{Rational};
     ghost use Rattle.hc_term.specs.declared.system.Process.{Process};
     ghost use Rattle.hc_term.specs.declared.model.ProcessState.{ProcessState};
     ghost use Rattle.hc_term.specs.Step.{opening_of};
     ghost use Rattle.hc_term.specs.Process.{wants};
     ghost use Rattle.hc_term.specs.Silent.{silent};
+    ghost use Rattle.hc_code.specs.declared.code.Instr.{Instr};
     ghost use Rattle.hc_code.specs.Stands.{Table, AllAgree, StandsFor};
     ghost use Rattle.hc_step.specs.declared.look.Move.{Move};
+    ghost use Rattle.hc_step.specs.Arriving.{is_arriving};
     ghost use Rattle.hc_step.specs.Taking.{IsMovable};
     ghost use Rattle.hc_step.specs.Represents.{Represents, Sees, IsFresh};
 
@@ -54,7 +57,7 @@ impl Local {
         process: u32,
         variables: u32,
     ) -> Result<Local, AllocError>
-        requires usable { IsTrue (is_usable_code variables _code.now.instrs) }
+        requires usable { IsUsable variables _code.now.instrs }
         requires few { variables ≤ 64 }
         ensures started { IsTrue (is_ok result) }
         ensures fresh { IfOk result (IsFresh process variables) }
@@ -128,24 +131,31 @@ impl Local {
         }
     }
 
-    /// The silent step, looked at before it is taken.
-    pub(crate) fn look(
-        &self,
-        code: &ProcCode,
-        clock: Frac,
-        seed: u64,
-    ) -> Result<Option<Move>, Unfit>
-        requires usable { IsTrue (is_usable_code self.now.variables code.now.instrs) }
+    /// Whether the next silent step is an arrival.
+    pub(crate) fn is_arriving(&self, code: &ProcCode) -> bool
+        requires { self.now.place < length code.now.instrs }
+        ensures { (i : Instr) → slice_get code.now.instrs self.now.place ≡ Some i → result ≡ is_arriving self.now.mark i }
+    {
+        match self.mark {
+            Mark::Going => is_stay(code.at(self.place)),
+            Mark::Arrived { left: _ } => false,
+        }
+    }
+
+    /// The silent step, looked at before it is taken, where it isn't an arrival.
+    pub(crate) fn look(&self, code: &ProcCode, seed: u64) -> Result<Option<Move>, Unfit>
+        requires usable { IsUsable self.now.variables code.now.instrs }
         requires within { self.now.place < length code.now.instrs }
-        ensures sees { (t : Table) (q : ProcessState) → AllAgree t code.now.instrs t → Represents t clock self.now q →
+        ensures sees { (t : Table) (clock : Rational) (q : ProcessState) (i : Instr) → slice_get code.now.instrs self.now.place ≡ Some i →
+            is_arriving self.now.mark i ≡ false → AllAgree t code.now.instrs t → Represents t clock self.now q →
             Sees t q (silent seed self.now.process clock q) result }
-        ensures movable { (step : Move) → result ≡ Ok (Some step) → IsMovable code.now.instrs clock self.now step }
+        ensures movable { (step : Move) → result ≡ Ok (Some step) → IsMovable code.now.instrs self.now step }
     {
         let instr = code.at(self.place);
         match self.mark {
             Mark::Going => {
                 let is_left = takes_left(seed, self.process, self.choices);
-                look_at(instr, self.store(), clock, is_left)
+                look_at(instr, self.store(), is_left)
             }
             Mark::Arrived { left: _ } => Ok(look_arrived(instr, self.post.bound)),
         }

@@ -1,14 +1,14 @@
 //! A process that runs on its flat code.
 
-ghost use Rattle.std.specs.Prelude.{◌≡◌, ◌<◌, length, IsTrue, IfSome};
+ghost use Rattle.std.specs.Prelude.{◌<◌, length, IsTrue, IfSome};
 ghost use Rattle.hc_rational.specs.Words.{◌≤ℚ◌};
-ghost use Rattle.hc_step.specs.Usable.{is_usable_code, is_still, evolves};
+ghost use Rattle.hc_step.specs.Usable.{IsUsable};
 
 use crate::acts::Act;
 use crate::showing::{put_item, put_post, put_stretch};
-use hc_code::{Instr, ProcCode, compile};
+use hc_code::{ProcCode, compile};
 use hc_frac::Frac;
-use hc_step::{Local, codes};
+use hc_step::{Local, code_laws};
 use hc_term::System;
 use std::alloc::{AllocError, Global};
 use std::cmp::Ordering;
@@ -19,26 +19,8 @@ pub(crate) struct Runner {
     local: Local,
     clock: Frac,
     seed: u64,
-    ghost usable: { IsTrue (is_usable_code local.variables code.instrs) },
+    ghost usable: { IsUsable local.variables code.instrs },
     ghost within: { local.place < length code.instrs },
-}
-
-fn is_evolution(instr: &Instr) -> bool
-    ensures { result ≡ evolves instr.now }
-{
-    matches!(instr, Instr::Evolve { .. })
-}
-
-/// Whether the code has no evolution.
-fn is_without_evolution(code: &ProcCode) -> bool
-    ensures { IsTrue result → IsTrue (is_still code.now.instrs) }
-{
-    for place in 0..code.len() {
-        if is_evolution(code.at(place)) {
-            return false;
-        }
-    }
-    true
 }
 
 fn is_at_most(left: Frac, right: Frac) -> bool
@@ -61,8 +43,7 @@ fn is_to_bound(by: Frac, bound: Option<Frac>) -> bool
 }
 
 impl Runner {
-    /// The first process of the system at its beginning and at moment 0, as the process of this number. There is none
-    /// where the process has an evolution, which has no steps yet.
+    /// The first process of the system at its beginning and at moment 0, as the process of this number.
     pub(crate) fn start(
         alloc: Global,
         system: &System,
@@ -73,10 +54,7 @@ impl Runner {
             return Ok(None);
         };
         let code = compile(alloc, process)?;
-        if !is_without_evolution(&code) {
-            return Ok(None);
-        }
-        codes();
+        code_laws();
         let variables = process.variables.len() as u32;
         let local = Local::start(alloc, &code, number, variables)?;
         Ok(Some(Runner {

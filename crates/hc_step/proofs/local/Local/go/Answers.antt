@@ -1,5 +1,5 @@
 use Rattle.std.proofs.Common.{ap, ◌∙◌, refl}
-use Rattle.hc_step.specs.Taking.{plain_post}
+use Rattle.hc_step.specs.Arriving.{plain_post}
 use Rattle.hc_step.proofs.Going.{went, carried_again}
 use Rattle.hc_step.proofs.local.Local.go.Goals as goal
 

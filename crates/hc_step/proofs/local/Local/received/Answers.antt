@@ -1,4 +1,4 @@
-use Rattle.std.proofs.Common.{◌≡◌, refl, ap, sym, subst, ◌∙◌, true, Some, ℕ}
+use Rattle.std.proofs.Common.{◌≡◌, ap, sym, subst, ◌∙◌, true, Some, ℕ}
 use Rattle.std.specs.Prelude.{slice_set}
 use Rattle.hc_term.specs.declared.post.Post.{Post}
 use Rattle.hc_term.specs.declared.model.Mark.TheVariants.{Going}
@@ -8,7 +8,7 @@ use Rattle.hc_code.specs.Stands.{At}
 use Rattle.hc_step.specs.declared.meeting.Taken.{Taken}
 use Rattle.hc_step.specs.Represents.{Represents}
 use Rattle.hc_step.specs.Ways.{ways_of, received_way}
-use Rattle.hc_step.proofs.Sees.{agrees_at, values_at}
+use Rattle.hc_step.proofs.Sees.{agrees_at}
 use Rattle.hc_step.proofs.Going.{carried}
 use Rattle.hc_step.proofs.Meetings.{received_place, received_leads}
 use Rattle.hc_step.proofs.local.Local.received.Goals as goal
@@ -32,8 +32,8 @@ returns-in-Some-clause-received c t clock q all r offered =
     let l = c.args.self.now in
     let i = c.at.result.now in
     let code = c.args.code.now.instrs in
-    let k = received_leads t c.args.channel l.variables clock c.args.value q q.store q.mark q.todo i
-    (values_at l.variables l.variables code l.place i c.requires.usable c.at.ensures refl) (agrees_at t t code l.place q.todo i all r.at_place c.at.ensures)
+    let k = received_leads t c.args.channel clock c.args.value q q.store q.mark q.todo i
+    (agrees_at t t code l.place q.todo i all r.at_place c.at.ensures)
     (subst (λ (p : Post). receives_on c.args.channel p.offers ≡ true) r.same_post offered) in
     let found : received_way c.args.channel (ways_of i) ≡ Some c.in-Some.taken =
     sym (ap (received_way c.args.channel) c.ways_of-ways.ensures) ∙ (sym c.received_way.ensures ∙ c.in-Some.is) in
@@ -48,7 +48,7 @@ returns-in_default-clause-received c t clock q all r offered =
     let l = c.args.self.now in
     let i = c.at.result.now in
     let code = c.args.code.now.instrs in
-    let k = received_leads t c.args.channel l.variables clock c.args.value q q.store q.mark q.todo i
-    (values_at l.variables l.variables code l.place i c.requires.usable c.at.ensures refl) (agrees_at t t code l.place q.todo i all r.at_place c.at.ensures)
+    let k = received_leads t c.args.channel clock c.args.value q q.store q.mark q.todo i
+    (agrees_at t t code l.place q.todo i all r.at_place c.at.ensures)
     (subst (λ (p : Post). receives_on c.args.channel p.offers ≡ true) r.same_post offered) in
     absurd (c.in_default.not-Some k.takes.taken (c.received_way.ensures ∙ (ap (received_way c.args.channel) c.ways_of-ways.ensures ∙ k.takes.is)))

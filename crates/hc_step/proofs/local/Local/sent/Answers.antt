@@ -1,10 +1,10 @@
-use Rattle.std.proofs.Common.{◌≡◌, ◌≢◌, refl, ap, sym, subst, ◌∙◌, Some, None, ℕ}
+use Rattle.std.proofs.Common.{◌≡◌, ◌≢◌, ap, sym, subst, ◌∙◌, Some, None, ℕ}
 use Rattle.hc_term.specs.declared.post.Post.{Post}
 use Rattle.hc_term.specs.Posts.{sent_on}
 use Rattle.hc_term.specs.Communication.{sent_at}
 use Rattle.hc_code.specs.Stands.{At}
 use Rattle.hc_step.specs.Ways.{ways_of, sent_way}
-use Rattle.hc_step.proofs.Sees.{agrees_at, values_at}
+use Rattle.hc_step.proofs.Sees.{agrees_at}
 use Rattle.hc_step.proofs.Going.{carried}
 use Rattle.hc_step.proofs.Meetings.{sent_place, sent_leads}
 use Rattle.hc_step.proofs.local.Local.sent.Goals as goal
@@ -20,9 +20,7 @@ pub returns-in-Some-clause-sent : goal.returns-in-Some-clause-sent
 returns-in-Some-clause-sent c t clock q all r offered =
     let l = c.args.self.now in
     let i = c.at.result.now in
-    let code = c.args.code.now.instrs in
-    let k = sent_leads t c.args.channel l.variables clock q.store q.mark q.todo i
-    (values_at l.variables l.variables code l.place i c.requires.usable c.at.ensures refl) (agrees_at t t code l.place q.todo i all r.at_place c.at.ensures)
+    let k = sent_leads t c.args.channel clock q.store q.mark q.todo i (agrees_at t t c.args.code.now.instrs l.place q.todo i all r.at_place c.at.ensures)
     (subst (λ (p : Post). sent_on c.args.channel p.offers ≢ None) r.same_post offered) in
     let found : sent_way c.args.channel (ways_of i) ≡ Some c.in-Some.next =
     sym (ap (sent_way c.args.channel) c.ways_of-ways.ensures) ∙ (sym c.sent_way.ensures ∙ c.in-Some.is) in
@@ -34,8 +32,6 @@ pub returns-in_default-clause-sent : goal.returns-in_default-clause-sent
 returns-in_default-clause-sent c t clock q all r offered =
     let l = c.args.self.now in
     let i = c.at.result.now in
-    let code = c.args.code.now.instrs in
-    let k = sent_leads t c.args.channel l.variables clock q.store q.mark q.todo i
-    (values_at l.variables l.variables code l.place i c.requires.usable c.at.ensures refl) (agrees_at t t code l.place q.todo i all r.at_place c.at.ensures)
+    let k = sent_leads t c.args.channel clock q.store q.mark q.todo i (agrees_at t t c.args.code.now.instrs l.place q.todo i all r.at_place c.at.ensures)
     (subst (λ (p : Post). sent_on c.args.channel p.offers ≢ None) r.same_post offered) in
     absurd (c.in_default.not-Some k.next (c.sent_way.ensures ∙ (ap (sent_way c.args.channel) c.ways_of-ways.ensures ∙ k.is)))

@@ -1,5 +1,5 @@
 use Rattle.hc_step.proofs.Ruled.{ruled_codes_are_usable}
-use Rattle.hc_step.proofs.laws.codes.Goals as goal
+use Rattle.hc_step.proofs.laws.code_laws.Goals as goal
 
 pub returns : goal.returns
 returns c = record { usable = ruled_codes_are_usable }
