@@ -28,7 +28,7 @@ use Rattle.hc_code.specs.Stands.{Table, At, AgreesHere, WaysAgree, Agrees}
 use Rattle.hc_code.proofs.Growing as bool
 use Rattle.hc_step.specs.declared.meeting.Taken.{Taken}
 use Rattle.hc_step.specs.Usable.{has_places, IsUsable}
-use Rattle.hc_step.specs.Ways.{ways_of, if_sends, sent_way, if_receives, received_way}
+use Rattle.hc_step.specs.Ways.{ways_of, place_sent_by, sent_way, taken_behind, received_way}
 use Rattle.hc_step.proofs.Sees.{rules_at, places_at}
 use Rattle.hc_step.proofs.Guards.{guards}
 
@@ -42,14 +42,14 @@ place_by : (b : Bool) (next n : ℕ) → (if b then Some next else None) ≡ Som
 place_by true next n e = cc
 place_by false next n e = cc
 
-place_of : (c next n : ℕ) (io : Io) → if_sends c next io ≡ Some n → next ≡ n
+place_of : (c next n : ℕ) (io : Io) → place_sent_by c next io ≡ Some n → next ≡ n
 place_of c next n (Send channel value) e = place_by (channel == c) next n e
 place_of c next n (Receive channel variable) e = cc
 
 pub sent_within : (len c n : ℕ) (ways : List Way) → IsTrue (list_all (λ w. nat_lt w.next len) ways) → sent_way c ways ≡ Some n → n < len
 sent_within len c n [] h e = cc
 sent_within len c n (w ∷ ws) h e =
-    either (n < len) (if_sends c w.next w.io) (sent_way c ws) n e
+    either (n < len) (place_sent_by c w.next w.io) (sent_way c ws) n e
     (λ f. subst (λ (p : ℕ). p < len) (place_of c w.next n w.io f) (ltb-true w.next len (bool.first_of (nat_lt w.next len) (list_all (λ w. nat_lt w.next len) ws) h)))
     (λ f. sent_within len c n ws (bool.second_of (nat_lt w.next len) (list_all (λ w. nat_lt w.next len) ws) h) f)
 
@@ -64,7 +64,7 @@ taken_by n len true j k h e =
     subst (λ (x : Taken). AreInRange n len x) same h
 taken_by n len false j k h e = cc
 
-taken_of : (channels n len c next : ℕ) (k : Taken) (io : Io) → IsTrue (is_io channels n io) → next < len → if_receives c next io ≡ Some k → AreInRange n len k
+taken_of : (channels n len c next : ℕ) (k : Taken) (io : Io) → IsTrue (is_io channels n io) → next < len → taken_behind c next io ≡ Some k → AreInRange n len k
 taken_of channels n len c next k (Send channel value) h l e = cc
 taken_of channels n len c next k (Receive channel variable) h l e =
     taken_by n len (channel == c) (record { variable = variable; next = next }) k
@@ -74,7 +74,7 @@ pub received_within : (channels n len c : ℕ) (k : Taken) (ways : List Way) →
     IsTrue (list_all (λ w. nat_lt w.next len) ways) → received_way c ways ≡ Some k → AreInRange n len k
 received_within channels n len c k [] v h e = cc
 received_within channels n len c k (w ∷ ws) v h e =
-    either (AreInRange n len k) (if_receives c w.next w.io) (received_way c ws) k e
+    either (AreInRange n len k) (taken_behind c w.next w.io) (received_way c ws) k e
     (λ f. taken_of channels n len c w.next k w.io (bool.first_of (is_io channels n w.io) (list_all (λ w. is_io channels n w.io) ws) v)
     (ltb-true w.next len (bool.first_of (nat_lt w.next len) (list_all (λ w. nat_lt w.next len) ws) h)) f)
     (λ f. received_within channels n len c k ws (bool.second_of (is_io channels n w.io) (list_all (λ w. is_io channels n w.io) ws) v)
@@ -126,7 +126,7 @@ module _ (t : Table) (c : ℕ) (s : Store) (r : Rates) (rest : List Stmt) where
 
   sent_step : (io : Io) (next : ℕ) (front other : List Stmt) (others : Option Rational) (later : Option ℕ) → At t next (front ++ rest) →
       (others ≢ None → LeadsBehind t later (other ++ rest)) → first_of (offer_sent_on c (offer_of s r io)) others ≢ None →
-      LeadsBehind t (first_of (if_sends c next io) later) (comm.if_sends c io front other ++ rest)
+      LeadsBehind t (first_of (place_sent_by c next io) later) (comm.if_sends c io front other ++ rest)
   sent_step (Send channel value) next front other others later at ih h = sent_if (channel == c) _ next front other others later at ih h
   sent_step (Receive channel variable) next front other others later at ih h = ih h
 
@@ -136,7 +136,7 @@ module _ (t : Table) (c : ℕ) (s : Store) (r : Rates) (rest : List Stmt) where
   ways_sent [] (b ∷ bs) w h = absurd w
   ways_sent (x ∷ ws) [] w h = absurd w
   ways_sent (x ∷ ws) (b ∷ bs) w h =
-      subst (λ (io : Io). LeadsBehind t (first_of (if_sends c x.next io) (sent_way c ws)) (comm.sent_branch c (b ∷ bs) ++ rest)) (sym w.0)
+      subst (λ (io : Io). LeadsBehind t (first_of (place_sent_by c x.next io) (sent_way c ws)) (comm.sent_branch c (b ∷ bs) ++ rest)) (sym w.0)
       (sent_step (out-Branch b).io x.next (out-Branch b).body (comm.sent_branch c bs) (sent_on c (offers_of s r bs)) (sent_way c ws) w.1
       (ways_sent ws bs w.2) h)
 
@@ -209,7 +209,7 @@ module _ (t : Table) (c : ℕ) (s : Store) (r : Rates) (rest : List Stmt) where
 
   received_step : (io : Io) (next : ℕ) (front : List Stmt) (other : comm.Taken) (others : Bool) (later : Option Taken) → At t next (front ++ rest) →
       (others ≡ true → Behind t later other rest) → (offer_receives_on c (offer_of s r io) || others) ≡ true →
-      Behind t (first_of (if_receives c next io) later) (comm.if_receives c io front other) rest
+      Behind t (first_of (taken_behind c next io) later) (comm.if_receives c io front other) rest
   received_step (Send channel value) next front other others later at ih h = ih h
   received_step (Receive channel variable) next front other others later at ih h = received_if (channel == c) variable next front other others later at ih h
 
@@ -219,7 +219,7 @@ module _ (t : Table) (c : ℕ) (s : Store) (r : Rates) (rest : List Stmt) where
   ways_received [] (b ∷ bs) w h = absurd w
   ways_received (x ∷ ws) [] w h = absurd w
   ways_received (x ∷ ws) (b ∷ bs) w h =
-      subst (λ (io : Io). Behind t (first_of (if_receives c x.next io) (received_way c ws)) (comm.received_branch c (b ∷ bs)) rest) (sym w.0)
+      subst (λ (io : Io). Behind t (first_of (taken_behind c x.next io) (received_way c ws)) (comm.received_branch c (b ∷ bs)) rest) (sym w.0)
       (received_step (out-Branch b).io x.next (out-Branch b).body (comm.received_branch c bs) (receives_on c (offers_of s r bs)) (received_way c ws) w.1
       (ways_received ws bs w.2) h)
 

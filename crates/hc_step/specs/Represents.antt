@@ -7,11 +7,14 @@ use Rattle.hc_term.specs.declared.run.StretchEnd.{StretchEnd}
 use Rattle.hc_term.specs.declared.run.StretchEnd.TheVariants as ends
 use Rattle.hc_term.specs.declared.model.ProcessState.{ProcessState}
 use Rattle.hc_term.specs.Silent.{Outcome, Idle, Unfit, Did}
-use Rattle.hc_term.specs.Offers.{post, going_post}
+use Rattle.hc_term.specs.Offers.{post}
 use Rattle.hc_term.specs.Event.{Progress}
+use Rattle.hc_code.specs.declared.code.Instr.{Instr}
 use Rattle.hc_code.specs.Stands.{Table, At}
 use Rattle.hc_step.specs.declared.local.Local.{Local}
 use Rattle.hc_step.specs.declared.stretch.Stretch.{Stretch}
+use Rattle.hc_step.specs.Arriving.{plain_post}
+use Rattle.hc_step.specs.Taking.{first_phase}
 use Rattle.hc_step.specs.Looking.{Seen}
 use Rattle.hc_step.specs.declared.look.Move.{Move}
 use Rattle.hc_step.specs.declared.look.Move.TheVariants as move
@@ -69,15 +72,15 @@ Sees t q _ _ = ⊥
 
 -- ---- the other calls
 
--- a local that has done nothing yet
-pub record IsFresh (process variables : ℕ) (l : Local) : Type 0 where
+-- a local that has done nothing yet of this code
+pub record IsFresh (process variables : ℕ) (code : List Instr) (l : Local) : Type 0 where
   pub same_process : l.process ≡ process
   pub same_count : l.variables ≡ variables
   pub at_start : l.place ≡ 0
   pub no_choices : l.choices ≡ 0
   pub all_zero : take variables l.store ≡ replicate variables zero_ℚ
   pub is_going : l.mark ≡ Going
-  pub shows_so : l.post ≡ going_post
+  pub shows_so : l.post ≡ plain_post (first_phase code)
 
 -- the same process and variables, at a place of the code
 pub record Keeps (len : ℕ) (old new : Local) : Type 0 where

@@ -1,5 +1,5 @@
 -- What a move needs before it is taken, and what a process shows that goes on.
-use Rattle.std.specs.Prelude.{◌<◌, List, length}
+use Rattle.std.specs.Prelude.{◌<◌, List, [], ◌∷◌, length}
 use Rattle.hc_term.specs.declared.post.Phase.{Phase}
 use Rattle.hc_term.specs.declared.post.Phase.TheVariants as phase
 use Rattle.hc_code.specs.declared.code.Instr.{Instr}
@@ -12,6 +12,11 @@ use Rattle.hc_step.specs.declared.look.Move.TheVariants as move
 abbrev pub phase_of : Instr → Phase
 phase_of instr.End = phase.Ended
 phase_of _ = phase.Going
+
+-- at the beginning of a code; one without instructions has nothing to do
+abbrev pub first_phase : List Instr → Phase
+first_phase [] = phase.Ended
+first_phase (i ∷ is) = phase_of i
 
 -- variables and places are in range
 abbrev pub IsMovable : List Instr → Local → Move → Type 0

@@ -15,22 +15,22 @@ ways_of _ = []
 
 -- ---- sending
 
-abbrev pub if_sends : ℕ → ℕ → Io → Option ℕ
-if_sends c next (Send channel value) = if channel == c then Some next else None
-if_sends c next (Receive channel variable) = None
+abbrev pub place_sent_by : ℕ → ℕ → Io → Option ℕ
+place_sent_by c next (Send channel value) = if channel == c then Some next else None
+place_sent_by c next (Receive channel variable) = None
 
 -- the place behind the way that sends on channel c
 abbrev pub sent_way : ℕ → List Way → Option ℕ
 sent_way c [] = None
-sent_way c (w ∷ ws) = first_of (if_sends c w.next w.io) (sent_way c ws)
+sent_way c (w ∷ ws) = first_of (place_sent_by c w.next w.io) (sent_way c ws)
 
 -- ---- receiving
 
-abbrev pub if_receives : ℕ → ℕ → Io → Option Taken
-if_receives c next (Send channel value) = None
-if_receives c next (Receive channel variable) = if channel == c then Some (record { variable = variable; next = next }) else None
+abbrev pub taken_behind : ℕ → ℕ → Io → Option Taken
+taken_behind c next (Send channel value) = None
+taken_behind c next (Receive channel variable) = if channel == c then Some (record { variable = variable; next = next }) else None
 
 -- the variable and the place behind the way that receives on channel c
 abbrev pub received_way : ℕ → List Way → Option Taken
 received_way c [] = None
-received_way c (w ∷ ws) = first_of (if_receives c w.next w.io) (received_way c ws)
+received_way c (w ∷ ws) = first_of (taken_behind c w.next w.io) (received_way c ws)

@@ -272,8 +272,8 @@ fn show_evolution(
 
 // ---- arrival
 
-/// Shows an arrival at an instruction, and answers what is left to wait. Where a value doesn't fit, the post may show
-/// anything.
+/// Shows an arrival at an instruction, and answers what is left to wait. At no other instruction does a process arrive.
+/// Where a value doesn't fit, the post may show anything.
 pub(crate) fn show_arrival(
     post: &mut Post,
     instr: &Instr,

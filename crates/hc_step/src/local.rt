@@ -6,6 +6,7 @@ ghost use Rattle.hc_step.specs.Usable.{IsUsable};
 
 use crate::arrival::is_stay;
 use crate::look::{Move, look_arrived, look_at, takes_left};
+use crate::taking::first_post;
 use hc_code::ProcCode;
 use hc_frac::Frac;
 use hc_term::{Mark, Phase, Post, Unfit};
@@ -49,20 +50,20 @@ impl Local {
     ghost use Rattle.hc_step.specs.Taking.{IsMovable};
     ghost use Rattle.hc_step.specs.Represents.{Represents, Sees, IsFresh};
 
-    /// The local of a process at the beginning of its code, which needs at least as many variables as it names. Its first
-    /// instruction is that of a statement, so it shows that it is going. All its room is in the value itself.
+    /// The local of a process at the beginning of its code, which needs at least as many variables as it names. All its
+    /// room is in the value itself.
     pub fn start(
         _alloc: Global,
-        _code: &ProcCode,
+        code: &ProcCode,
         process: u32,
         variables: u32,
     ) -> Result<Local, AllocError>
-        requires usable { IsUsable variables _code.now.instrs }
+        requires usable { IsUsable variables code.now.instrs }
         requires few { variables ≤ 64 }
         ensures started { IsTrue (is_ok result) }
-        ensures fresh { IfOk result (IsFresh process variables) }
-        ensures opens { IfOk result (λ l. (t : Table) (clock : Rational) (p : Process) → StandsFor _code.now.instrs p.body t →
-            length p.variables ≡ variables → 0 < length p.body → Represents t clock l (opening_of p)) }
+        ensures fresh { IfOk result (IsFresh process variables code.now.instrs) }
+        ensures opens { IfOk result (λ l. (t : Table) (clock : Rational) (p : Process) → StandsFor code.now.instrs p.body t →
+            length p.variables ≡ variables → Represents t clock l (opening_of p)) }
     {
         Ok(Local {
             process,
@@ -71,7 +72,7 @@ impl Local {
             choices: 0,
             store: zeros(),
             mark: Mark::Going,
-            post: Post::going(),
+            post: first_post(code),
         })
     }
 

@@ -29,7 +29,7 @@ fn ways_of(instr: &Instr) -> &[Way]
 
 /// The place behind a way, where it sends on the channel.
 fn place_sent(way: &Way, channel: u32) -> Option<u32>
-    ensures { result ≡ spec.if_sends channel way.now.next way.now.io }
+    ensures { result ≡ spec.place_sent_by channel way.now.next way.now.io }
 {
     match &way.io {
         Io::Send {
@@ -54,7 +54,7 @@ fn sent_way(ways: &[Way], channel: u32) -> Option<u32>
 
 /// What is behind a way, where it receives on the channel.
 fn taken_by(way: &Way, channel: u32) -> Option<Taken>
-    ensures { result ≡ spec.if_receives channel way.now.next way.now.io }
+    ensures { result ≡ spec.taken_behind channel way.now.next way.now.io }
 {
     match &way.io {
         Io::Receive {

@@ -92,7 +92,7 @@ impl Local {
         let mut shown = Post::going();
         match show_arrival(&mut shown, code.at(self.place), self.store(), clock) {
             Ok(_) => StretchEnd::Spent,
-            Err(Unfit) => StretchEnd::Unfit,
+            Err(_) => StretchEnd::Unfit,
         }
     }
 

@@ -1,22 +1,36 @@
 //! Taking a silent step that was looked at.
 
 ghost use Rattle.std.specs.Prelude.{◌≡◌, ◌<◌, ◌+◌, length, slice_set};
-ghost use Rattle.hc_step.specs.Taking.{phase_of};
+ghost use Rattle.hc_step.specs.Arriving.{plain_post};
+ghost use Rattle.hc_step.specs.Taking.{phase_of, first_phase};
 
 use crate::local::Local;
 use crate::look::Move;
 use hc_code::{Instr, ProcCode};
 use hc_frac::Frac;
-use hc_term::{Mark, Phase};
+use hc_term::{Mark, Phase, Post};
 
 /// The phase of a process that comes to an instruction.
-pub(crate) fn phase_at(instr: &Instr) -> Phase
+fn phase_at(instr: &Instr) -> Phase
     ensures { result ≡ phase_of instr.now }
 {
     match instr {
         Instr::End => Phase::Ended,
         _ => Phase::Going,
     }
+}
+
+/// What a process shows at the beginning of its code: that it is going, or that it has ended.
+pub(crate) fn first_post(code: &ProcCode) -> Post
+    ensures { result ≡ plain_post (first_phase code.now.instrs) }
+{
+    let mut post = Post::going();
+    if code.len() == 0 {
+        post.show(Phase::Ended);
+    } else {
+        post.show(phase_at(code.at(0)));
+    }
+    post
 }
 
 impl Local {
