@@ -40,9 +40,10 @@ pub(crate) fn copies_of(alloc: Global, system: &System) -> Result<String, AllocE
     let Some(horizon) = Frac::new(1, 1) else {
         return String::from_str(alloc, "unknown");
     };
-    let Some(task) = Task::new(system.copy(alloc)?, 0, horizon, 1) else {
+    if horizon.sign() <= 0 {
         return String::from_str(alloc, "unknown");
-    };
+    }
+    let task = Task::new(system.copy(alloc)?, 0, horizon, 1);
     let copy = task.copy(alloc)?.system;
     let state = configuration_of(alloc, &copy)?.copy(alloc)?;
     let is_whole = state.processes.len() == system.processes.len();
