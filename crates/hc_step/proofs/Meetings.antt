@@ -254,7 +254,8 @@ pub record Receives (t : Table) (c : ℕ) (v : Rational) (p : ProcessState) (tod
   pub same : comm.received_at c v p todo ≡ record p { todo = rest; store = slice_set p.store variable v; mark = Going }
   pub takes : TakesBehind t found variable rest
 
-pub received_leads : (t : Table) (c : ℕ) (clock v : Rational) (p : ProcessState) (s : Store) (m : Mark) (todo : List Stmt) (i : Instr) → Agrees t i todo → receives_on c (post_at clock s (bound_at s m todo) m todo).offers ≡ true → Receives t c v p todo (received_way c (ways_of i))
+pub received_leads : (t : Table) (c : ℕ) (clock v : Rational) (p : ProcessState) (s : Store) (m : Mark) (todo : List Stmt) (i : Instr) →
+    Agrees t i todo → receives_on c (post_at clock s (bound_at s m todo) m todo).offers ≡ true → Receives t c v p todo (received_way c (ways_of i))
 received_leads t c clock v p s m [] i h g = absurd (false≢true g)
 received_leads t c clock v p s Going (head ∷ rest) i h g = absurd (false≢true g)
 received_leads t c clock v p s (Arrived left) (head ∷ rest) i h g = record {
