@@ -85,9 +85,9 @@ module _ (t : Table) (seed p : ℕ) (clock : Rational) (q : ProcessState) (i : I
   arrival_at [] h m = never i _ h refl m
   arrival_at (head ∷ rest) h m = arrival_here head rest (out-Stmt head) h m
 
-  shows_going : (b : Bool) (s : Store) (todo : List Stmt) → Agrees t i todo → is_stay i ≡ true → going_post ≡ post_at clock s None Going todo
-  shows_going b s [] h m = never i _ h refl m
-  shows_going b s (head ∷ rest) h m = refl
+  shows_going : (s : Store) (todo : List Stmt) → Agrees t i todo → is_stay i ≡ true → going_post ≡ post_at clock s None Going todo
+  shows_going s [] h m = never i _ h refl m
+  shows_going s (head ∷ rest) h m = refl
 
 arriving_parts : (m : Mark) (i : Instr) → IsTrue (is_arriving m i) → (m ≡ Going) × (is_stay i ≡ true)
 arriving_parts Going i h = (refl, h)
@@ -149,7 +149,7 @@ module _ (t : Table) (code : List Instr) (seed p : ℕ) (clock : Rational) (q : 
           same_store = store ∙ r.same_store;
           same_choices = choices ∙ r.same_choices;
           same_mark = mark ∙ r.same_mark;
-          same_post = shows ∙ shows_going t seed p clock q i true q.store q.todo agrees stays
+          same_post = shows ∙ shows_going t seed p clock q i q.store q.todo agrees stays
               ∙ ap (λ (m : Mark). post_at clock q.store (bound_at q.store m q.todo) m q.todo) (sym going);
         },
       )

@@ -27,7 +27,7 @@ use Rattle.hc_code.specs.Kept.{ios_of, is_instr}
 use Rattle.hc_code.specs.Stands.{Table, At, AgreesHere, WaysAgree, Agrees}
 use Rattle.hc_code.proofs.Growing as bool
 use Rattle.hc_step.specs.declared.meeting.Taken.{Taken}
-use Rattle.hc_step.specs.Usable.{has_places, IsUsable}
+use Rattle.hc_step.specs.Usable.{has_places, is_usable_code}
 use Rattle.hc_step.specs.Ways.{ways_of, place_sent_by, sent_way, taken_behind, received_way}
 use Rattle.hc_step.proofs.Sees.{rules_at, places_at}
 use Rattle.hc_step.proofs.Guards.{guards}
@@ -254,7 +254,8 @@ pub record Receives (t : Table) (c : ℕ) (v : Rational) (p : ProcessState) (tod
   pub same : comm.received_at c v p todo ≡ record p { todo = rest; store = slice_set p.store variable v; mark = Going }
   pub takes : TakesBehind t found variable rest
 
-pub received_leads : (t : Table) (c : ℕ) (clock v : Rational) (p : ProcessState) (s : Store) (m : Mark) (todo : List Stmt) (i : Instr) → Agrees t i todo → receives_on c (post_at clock s (bound_at s m todo) m todo).offers ≡ true → Receives t c v p todo (received_way c (ways_of i))
+pub received_leads : (t : Table) (c : ℕ) (clock v : Rational) (p : ProcessState) (s : Store) (m : Mark) (todo : List Stmt) (i : Instr) →
+    Agrees t i todo → receives_on c (post_at clock s (bound_at s m todo) m todo).offers ≡ true → Receives t c v p todo (received_way c (ways_of i))
 received_leads t c clock v p s m [] i h g = absurd (false≢true g)
 received_leads t c clock v p s Going (head ∷ rest) i h g = absurd (false≢true g)
 received_leads t c clock v p s (Arrived left) (head ∷ rest) i h g = record {
@@ -266,11 +267,11 @@ received_leads t c clock v p s (Arrived left) (head ∷ rest) i h g = record {
 
 -- ---- what a usable code keeps
 
-pub sent_place : (n place c m : ℕ) (code : List Instr) (i : Instr) → IsUsable n code → slice_get code place ≡ Some i →
+pub sent_place : (n place c m : ℕ) (code : List Instr) (i : Instr) → IsTrue (is_usable_code n code) → slice_get code place ≡ Some i →
     sent_way c (ways_of i) ≡ Some m → m < length code
 sent_place n place c m code i u at e = sent_in_range (length code) c m i (places_at n code place i u at) e
 
-pub received_place : (n place c : ℕ) (k : Taken) (code : List Instr) (i : Instr) → IsUsable n code → slice_get code place ≡ Some i →
+pub received_place : (n place c : ℕ) (k : Taken) (code : List Instr) (i : Instr) → IsTrue (is_usable_code n code) → slice_get code place ≡ Some i →
     received_way c (ways_of i) ≡ Some k → AreInRange n (length code) k
 received_place n place c k code i u at e =
     let ruled = rules_at n n code place i u at refl in

@@ -16,7 +16,7 @@ use Rattle.hc_code.proofs.Growing.{first_of, second_of}
 use Rattle.hc_step.specs.declared.local.Local.{Local}
 use Rattle.hc_step.specs.declared.look.Move.{Move}
 use Rattle.hc_step.specs.declared.look.Move.TheVariants as move
-use Rattle.hc_step.specs.Usable.{has_places, IsUsable}
+use Rattle.hc_step.specs.Usable.{has_places, is_usable_code}
 use Rattle.hc_step.specs.Looking.{Seen, setting, logging, testing, seen, seen_arrived}
 use Rattle.hc_step.specs.Taking.{IsMovable}
 use Rattle.hc_step.proofs.Sees.{rules_at, places_at}
@@ -113,14 +113,14 @@ movable code l (move.Sets x v next) h = h
 movable code l (move.Logs v next) h = h
 movable code l (move.Picks next) h = h
 
-pub movable_going : (code : List Instr) (is_left : Bool) (l : Local) (i : Instr) (k : Move) → IsUsable l.variables code →
+pub movable_going : (code : List Instr) (is_left : Bool) (l : Local) (i : Instr) (k : Move) → IsTrue (is_usable_code l.variables code) →
     slice_get code l.place ≡ Some i → seen (take l.variables l.store) is_left i ≡ Ok (Some k) → IsMovable code l k
 movable_going code is_left l i k u at e =
     let ruled = rules_at l.variables l.variables code l.place i u at refl in
     movable code l k
     (ready_going ruled.0 l.variables (length code) (take l.variables l.store) is_left i k ruled.1 (places_at l.variables code l.place i u at) e)
 
-pub movable_arrived : (code : List Instr) (b : Option Rational) (l : Local) (i : Instr) (k : Move) → IsUsable l.variables code →
+pub movable_arrived : (code : List Instr) (b : Option Rational) (l : Local) (i : Instr) (k : Move) → IsTrue (is_usable_code l.variables code) →
     slice_get code l.place ≡ Some i → seen_arrived b i ≡ Ok (Some k) → IsMovable code l k
 movable_arrived code b l i k u at e =
     movable code l k (ready_arrived l.variables (length code) b i k (places_at l.variables code l.place i u at) e)

@@ -1,20 +1,24 @@
 -- The code of a process that keeps the rules can be run, with its own number of variables or more.
-use Rattle.std.proofs.Common.{◌≡◌, refl, sym, ap, subst, arith, ℕ, zero, suc, ◌<◌, true, ◌&&◌, IsTrue, List, [], ◌∷◌, ◌++◌, length, Some}
+use Rattle.std.proofs.Common.{◌≡◌, refl, sym, ap, subst, arith, ℕ, zero, suc, ◌<◌, ◌≤◌, true, ◌&&◌, IsTrue, List, [], ◌∷◌, ◌++◌, length, Some}
 use Rattle.std.specs.Prelude.{slice_get, nat_lt, nat_le}
 use Rattle.std.specs.List.{list_all}
 use Rattle.std.proofs.lemmas.Bool.{lt-ltb}
 use Rattle.hc_term.specs.declared.stmt.Stmt.{Stmt, out-Stmt}
 use Rattle.hc_term.specs.declared.stmt.Stmt.TheOpen.{Stmt-F}
 use Rattle.hc_term.specs.declared.stmt.Branch.{Branch}
+use Rattle.hc_limits.specs.Limits.{most_guards}
+use Rattle.hc_term.specs.declared.stmt.Io.{Io}
+use Rattle.hc_term.specs.declared.stmt.Io.TheVariants.{Send, Receive}
+use Rattle.hc_term.specs.Profile.{is_expr, is_io, is_same_io, all_apart, are_guards, is_evolution}
 use Rattle.hc_term.specs.Process.{Layer}
 use Rattle.hc_term.specs.Rules.{is_stmt}
 use Rattle.hc_code.specs.declared.code.Way.{Way}
 use Rattle.hc_code.specs.declared.code.Instr.{Instr}
 use Rattle.hc_code.specs.declared.code.Instr.TheVariants as instr
-use Rattle.hc_code.specs.Kept.{is_instr}
+use Rattle.hc_code.specs.Kept.{ios_of, is_instr}
 use Rattle.hc_code.specs.Stands.{Table, At, AgreesHere, WaysAgree, Agrees, AllAgree}
 use Rattle.hc_code.proofs.Growing.{both, first_of, second_of}
-use Rattle.hc_step.specs.Usable.{has_places, is_usable}
+use Rattle.hc_step.specs.Usable.{has_places, channel_of, channel_reach, is_ruled, is_usable}
 use Rattle.hc_step.proofs.Evolves.{all_weaker}
 use Rattle.hc_step.proofs.Wider.{instr_more}
 use Rattle.hc_step.specs.Laws.{RuledCodesAreUsable}
@@ -71,16 +75,55 @@ module _ (t : Table) (len : ℕ) (even : length t ≡ len) where
   placed i [] h = placed_by i instr.End h refl
   placed i (head ∷ rest) h = placed_here i head rest (out-Stmt head) h
 
+-- ---- channels
+
+module _ (channels n m : ℕ) where
+  io_reached : (io : Io) → channel_of io < m → is_io channels n io ≡ true → is_io m n io ≡ true
+  io_reached (Send c e) h k = both (nat_lt c m) (is_expr n e) (lt-ltb c m h) (second_of (nat_lt c channels) (is_expr n e) k)
+  io_reached (Receive c x) h k = both (nat_lt c m) (nat_lt x n) (lt-ltb c m h) (second_of (nat_lt c channels) (nat_lt x n) k)
+
+  ios_reached : (ios : List Io) → channel_reach ios ≤ m → list_all (is_io channels n) ios ≡ true → list_all (is_io m n) ios ≡ true
+  ios_reached [] h k = refl
+  ios_reached (io ∷ ios) h k =
+      both (is_io m n io) (list_all (is_io m n) ios)
+      (io_reached io (omega (arith, h)) (first_of (is_io channels n io) (list_all (is_io channels n) ios) k))
+      (ios_reached ios (omega (arith, h)) (second_of (is_io channels n io) (list_all (is_io channels n) ios) k))
+
+guards_reached : (channels n : ℕ) (ios : List Io) → are_guards channels n ios ≡ true → are_guards (channel_reach ios) n ios ≡ true
+guards_reached channels n ios h =
+    let m = channel_reach ios in
+    let front = first_of (nat_le (length ios) most_guards && list_all (is_io channels n) ios) (all_apart is_same_io ios) h in
+    both (nat_le (length ios) most_guards && list_all (is_io m n) ios) (all_apart is_same_io ios)
+    (both (nat_le (length ios) most_guards) (list_all (is_io m n) ios) (first_of (nat_le (length ios) most_guards) (list_all (is_io channels n) ios) front)
+    (ios_reached channels n m ios (omega arith) (second_of (nat_le (length ios) most_guards) (list_all (is_io channels n) ios) front)))
+    (second_of (nat_le (length ios) most_guards && list_all (is_io channels n) ios) (all_apart is_same_io ios) h)
+
+-- an instruction that keeps the rules in one system keeps them in one that has its channels
+reached : (channels n : ℕ) (i : Instr) → is_instr channels n i ≡ true → is_ruled n i ≡ true
+reached channels n (instr.Meet ways) h = guards_reached channels n (ios_of ways) h
+reached channels n (instr.Evolve rates c ways next) h =
+    both (is_evolution n rates c (ios_of ways)) (are_guards (channel_reach (ios_of ways)) n (ios_of ways))
+    (first_of (is_evolution n rates c (ios_of ways)) (are_guards channels n (ios_of ways)) h)
+    (guards_reached channels n (ios_of ways) (second_of (is_evolution n rates c (ios_of ways)) (are_guards channels n (ios_of ways)) h))
+reached channels n (instr.Skip next) h = h
+reached channels n (instr.Assign x e next) h = h
+reached channels n (instr.Log e next) h = h
+reached channels n (instr.Wait e next) h = h
+reached channels n (instr.Test c first second) h = h
+reached channels n (instr.Pick left right) h = h
+reached channels n (instr.Again next) h = h
+reached channels n instr.End h = h
+
 -- ---- codes
 
 usable_all : (t ts : Table) (channels n len : ℕ) (code : List Instr) → length t ≡ len → AllAgree t code ts → IsTrue (list_all (is_instr channels n) code) →
-    IsTrue (list_all (is_usable channels n len) code)
+    IsTrue (list_all (is_usable n len) code)
 usable_all t [] channels n len [] even h k = refl
 usable_all t [] channels n len (i ∷ is) even h k = absurd h
 usable_all t (l ∷ ls) channels n len [] even h k = absurd h
 usable_all t (l ∷ ls) channels n len (i ∷ is) even h k =
-    both (is_usable channels n len i) (list_all (is_usable channels n len) is)
-    (both (is_instr channels n i) (has_places len i) (first_of (is_instr channels n i) (list_all (is_instr channels n) is) k) (placed t len even i l h.0))
+    both (is_usable n len i) (list_all (is_usable n len) is)
+    (both (is_ruled n i) (has_places len i) (reached channels n i (first_of (is_instr channels n i) (list_all (is_instr channels n) is) k)) (placed t len even i l h.0))
     (usable_all t ls channels n len is even h.1 (second_of (is_instr channels n i) (list_all (is_instr channels n) is) k))
 
 pub ruled_codes_are_usable : RuledCodesAreUsable

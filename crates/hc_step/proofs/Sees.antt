@@ -16,11 +16,10 @@ use Rattle.hc_term.specs.Offers.{post_at}
 use Rattle.hc_term.specs.Silent.{Idle, Did, silent, silent_at, if_fit, goes_on, going_step, picks_left}
 use Rattle.hc_code.specs.declared.code.Instr.{Instr}
 use Rattle.hc_code.specs.declared.code.Instr.TheVariants as instr
-use Rattle.hc_code.specs.Kept.{is_instr}
 use Rattle.hc_code.specs.Stands.{Table, At, AgreesHere, Agrees, AllAgree}
 use Rattle.hc_step.specs.declared.look.Move.{Move}
 use Rattle.hc_step.specs.declared.look.Move.TheVariants as move
-use Rattle.hc_step.specs.Usable.{has_places, is_usable, IsRuled, IsUsable}
+use Rattle.hc_step.specs.Usable.{has_places, is_usable, IsRuled, is_ruled, is_usable_code, channels_at}
 use Rattle.hc_step.specs.Arriving.{is_stay}
 use Rattle.hc_code.proofs.Growing.{first_of, second_of}
 use Rattle.hc_step.specs.Looking.{setting, logging, testing, seen, seen_arrived}
@@ -183,25 +182,26 @@ same_side seed p k = ap (λ (n : ℕ). (seed / 2 ^ n) % 2 == 0) (same_bit k p)
 
 -- ---- what a local keeps
 
-usable_at : (channels n len : ℕ) (code : List Instr) (place : ℕ) (i : Instr) → IsTrue (list_all (is_usable channels n len) code) → slice_get code place ≡ Some i →
-    IsTrue (is_usable channels n len i)
-usable_at channels n len [] place i u e = cc
-usable_at channels n len (j ∷ is) zero i u e =
+usable_at : (n len : ℕ) (code : List Instr) (place : ℕ) (i : Instr) → IsTrue (list_all (is_usable n len) code) → slice_get code place ≡ Some i →
+    IsTrue (is_usable n len i)
+usable_at n len [] place i u e = cc
+usable_at n len (j ∷ is) zero i u e =
     let same : j ≡ i = cc in
-    subst (λ (k : Instr). IsTrue (is_usable channels n len k)) same (first_of (is_usable channels n len j) (list_all (is_usable channels n len) is) u)
-usable_at channels n len (j ∷ is) (suc place) i u e = usable_at channels n len is place i (second_of (is_usable channels n len j) (list_all (is_usable channels n len) is) u) e
+    subst (λ (k : Instr). IsTrue (is_usable n len k)) same (first_of (is_usable n len j) (list_all (is_usable n len) is) u)
+usable_at n len (j ∷ is) (suc place) i u e = usable_at n len is place i (second_of (is_usable n len j) (list_all (is_usable n len) is) u) e
 
 -- a place has one instruction
 pub same_instr : (code : List Instr) (place : ℕ) (i j : Instr) → slice_get code place ≡ Some i → slice_get code place ≡ Some j → i ≡ j
 same_instr code place i j h k = let e : Some i ≡ Some j = sym h ∙ k in cc
 
 -- the instruction at a place keeps the rules, and its places are in range
-pub rules_at : (n m : ℕ) (code : List Instr) (place : ℕ) (i : Instr) → IsUsable n code → slice_get code place ≡ Some i → m ≡ n → IsRuled m i
+pub rules_at : (n m : ℕ) (code : List Instr) (place : ℕ) (i : Instr) → IsTrue (is_usable_code n code) → slice_get code place ≡ Some i → m ≡ n → IsRuled m i
 rules_at n m code place i u e same =
-    subst (λ (k : ℕ). IsRuled k i) (sym same) (u.0, first_of (is_instr u.0 n i) (has_places (length code) i) (usable_at u.0 n (length code) code place i u.1 e))
+    subst (λ (k : ℕ). IsRuled k i) (sym same) (channels_at i, first_of (is_ruled n i) (has_places (length code) i) (usable_at n (length code) code place i u e))
 
-pub places_at : (n : ℕ) (code : List Instr) (place : ℕ) (i : Instr) → IsUsable n code → slice_get code place ≡ Some i → IsTrue (has_places (length code) i)
-places_at n code place i u e = second_of (is_instr u.0 n i) (has_places (length code) i) (usable_at u.0 n (length code) code place i u.1 e)
+pub places_at : (n : ℕ) (code : List Instr) (place : ℕ) (i : Instr) → IsTrue (is_usable_code n code) → slice_get code place ≡ Some i →
+    IsTrue (has_places (length code) i)
+places_at n code place i u e = second_of (is_ruled n i) (has_places (length code) i) (usable_at n (length code) code place i u e)
 
 pub shown_bound : (clock : Rational) (s : Store) (m : Mark) (todo : List Stmt) → (post_at clock s (bound_at s m todo) m todo).bound ≡ bound_at s m todo
 shown_bound clock s Going [] = refl

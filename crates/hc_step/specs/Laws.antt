@@ -12,4 +12,4 @@ use Rattle.hc_step.specs.Usable.{is_usable_code}
 abbrev pub RuledCodesAreUsable : Type 0
 RuledCodesAreUsable =
     (channels n : ℕ) (p : Process) (code : List Instr) → IsTrue (is_process channels p) → Stands code p.body → KeepsRules p.body code →
-    length p.variables ≤ n → IsTrue (is_usable_code channels n code) × (0 < length code)
+    length p.variables ≤ n → IsTrue (is_usable_code n code) × (0 < length code)

@@ -61,7 +61,7 @@ impl Local {
     ghost use Rattle.hc_term.specs.Moved.{moved_post};
     ghost use Rattle.hc_code.specs.declared.code.Instr.{Instr};
     ghost use Rattle.hc_code.specs.Stands.{Table, AllAgree};
-    ghost use Rattle.hc_step.specs.Usable.{IsUsable};
+    ghost use Rattle.hc_step.specs.Usable.{is_usable_code};
     ghost use Rattle.hc_step.specs.Represents.{Represents, Keeps};
 
     /// Whether this process's working values of a delay fit.
@@ -79,7 +79,7 @@ impl Local {
         ensures keeps { (len : ℕ) → self.old.place < len → Keeps len self.old self.new }
         ensures shows { self.new.post ≡ moved_post by self.old.post }
         ensures moved { (t : Table) (code : List Instr) (clock : Rational) (q : ProcessState) →
-            IsUsable self.old.variables code → AllAgree t code t → Represents t clock self.old q →
+            IsTrue (is_usable_code self.old.variables code) → AllAgree t code t → Represents t clock self.old q →
             Represents t (clock +ℚ by) self.new (moved by q) }
     {
         self.mark = mark_after(&self.post, self.mark, by);

@@ -1,8 +1,8 @@
 //! What a process keeps between its steps.
 
-ghost use Rattle.std.specs.Prelude.{◌≡◌, ◌≤◌, ◌<◌, length, take, replicate};
+ghost use Rattle.std.specs.Prelude.{◌≡◌, ◌≤◌, ◌<◌, length, take, replicate, IsTrue};
 ghost use Rattle.hc_rational.specs.Words.{zero_ℚ};
-ghost use Rattle.hc_step.specs.Usable.{IsUsable};
+ghost use Rattle.hc_step.specs.Usable.{is_usable_code};
 
 use crate::arrival::is_stay;
 use crate::look::{Move, look_arrived, look_at, takes_left};
@@ -36,7 +36,7 @@ fn zeros() -> [Frac; 64]
 }
 
 impl Local {
-    ghost use Rattle.std.specs.Prelude.{Ok, Some, IfOk, IsTrue, is_ok, false, slice_get};
+    ghost use Rattle.std.specs.Prelude.{Ok, Some, IfOk, is_ok, false, slice_get};
     ghost use Rattle.hc_rational.specs.Words.{Rational};
     ghost use Rattle.hc_term.specs.declared.system.Process.{Process};
     ghost use Rattle.hc_term.specs.declared.model.ProcessState.{ProcessState};
@@ -58,7 +58,7 @@ impl Local {
         process: u32,
         variables: u32,
     ) -> Result<Local, AllocError>
-        requires usable { IsUsable variables code.now.instrs }
+        requires usable { IsTrue (is_usable_code variables code.now.instrs) }
         requires few { variables ≤ 64 }
         ensures started { IsTrue (is_ok result) }
         ensures fresh { IfOk result (IsFresh process variables code.now.instrs) }
@@ -145,7 +145,7 @@ impl Local {
 
     /// The silent step, looked at before it is taken, where it isn't an arrival.
     pub(crate) fn look(&self, code: &ProcCode, seed: u64) -> Result<Option<Move>, Unfit>
-        requires usable { IsUsable self.now.variables code.now.instrs }
+        requires usable { IsTrue (is_usable_code self.now.variables code.now.instrs) }
         requires within { self.now.place < length code.now.instrs }
         ensures sees { (t : Table) (clock : Rational) (q : ProcessState) (i : Instr) → slice_get code.now.instrs self.now.place ≡ Some i →
             is_arriving self.now.mark i ≡ false → AllAgree t code.now.instrs t → Represents t clock self.now q →

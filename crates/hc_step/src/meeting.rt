@@ -1,7 +1,7 @@
 //! What a communication does to one process.
 
-ghost use Rattle.std.specs.Prelude.{◌≡◌, ◌<◌, length};
-ghost use Rattle.hc_step.specs.Usable.{IsUsable};
+ghost use Rattle.std.specs.Prelude.{◌≡◌, ◌<◌, length, IsTrue};
+ghost use Rattle.hc_step.specs.Usable.{is_usable_code};
 ghost use Rattle.hc_step.specs.Ways as spec;
 
 use crate::local::Local;
@@ -91,7 +91,7 @@ impl Local {
 
     /// Sends on the channel, which the process must offer.
     pub fn sent(&mut self, code: &ProcCode, channel: u32)
-        requires usable { IsUsable self.old.variables code.now.instrs }
+        requires usable { IsTrue (is_usable_code self.old.variables code.now.instrs) }
         requires within { self.old.place < length code.now.instrs }
         ensures keeps { Keeps (length code.now.instrs) self.old self.new }
         ensures sent { (t : Table) (clock : Rational) (q : ProcessState) → AllAgree t code.now.instrs t → Represents t clock self.old q →
@@ -105,7 +105,7 @@ impl Local {
 
     /// Receives the value on the channel, which the process must offer.
     pub fn received(&mut self, code: &ProcCode, channel: u32, value: Frac)
-        requires usable { IsUsable self.old.variables code.now.instrs }
+        requires usable { IsTrue (is_usable_code self.old.variables code.now.instrs) }
         requires within { self.old.place < length code.now.instrs }
         ensures keeps { Keeps (length code.now.instrs) self.old self.new }
         ensures received { (t : Table) (clock : Rational) (q : ProcessState) → AllAgree t code.now.instrs t → Represents t clock self.old q →

@@ -1,7 +1,7 @@
 //! Stretches of silent steps.
 
-ghost use Rattle.std.specs.Prelude.{◌≡◌, ◌<◌, ◌≤◌, length};
-ghost use Rattle.hc_step.specs.Usable.{IsUsable};
+ghost use Rattle.std.specs.Prelude.{◌≡◌, ◌<◌, ◌≤◌, length, IsTrue};
+ghost use Rattle.hc_step.specs.Usable.{is_usable_code};
 ghost use Rattle.hc_step.specs.Stepping.{stepped};
 
 use crate::arrival::show_arrival;
@@ -37,7 +37,7 @@ fn stepped_by(step: &Move) -> Stepped
 }
 
 impl Local {
-    ghost use Rattle.std.specs.Prelude.{ℕ, IsTrue, Some, slice_get};
+    ghost use Rattle.std.specs.Prelude.{ℕ, Some, slice_get};
     ghost use Rattle.hc_rational.specs.Words.{Rational};
     ghost use Rattle.hc_term.specs.declared.model.ProcessState.{ProcessState};
     ghost use Rattle.hc_term.specs.Silent.{silent};
@@ -60,7 +60,7 @@ impl Local {
 
     /// Arrives where it is, where all values fit; else it goes on showing what a going process shows.
     fn arrive(&mut self, code: &ProcCode, clock: Frac) -> Stepped
-        requires usable { IsUsable self.old.variables code.now.instrs }
+        requires usable { IsTrue (is_usable_code self.old.variables code.now.instrs) }
         requires within { self.old.place < length code.now.instrs }
         ensures keeps { Keeps (length code.now.instrs) self.old self.new }
         ensures steps { (t : Table) (q : ProcessState) (seed : ℕ) (i : Instr) → slice_get code.now.instrs self.old.place ≡ Some i →
@@ -83,7 +83,7 @@ impl Local {
 
     /// Why a stretch ends before an arrival that may not be taken any more.
     fn end_of_arrival(&self, code: &ProcCode, clock: Frac) -> StretchEnd
-        requires usable { IsUsable self.now.variables code.now.instrs }
+        requires usable { IsTrue (is_usable_code self.now.variables code.now.instrs) }
         requires within { self.now.place < length code.now.instrs }
         ensures { (t : Table) (q : ProcessState) (seed : ℕ) (i : Instr) → slice_get code.now.instrs self.now.place ≡ Some i →
             IsTrue (is_arriving self.now.mark i) → AllAgree t code.now.instrs t → Represents t clock self.now q →
@@ -98,7 +98,7 @@ impl Local {
 
     /// Takes the next silent step, where it has one that fits.
     fn step(&mut self, code: &ProcCode, clock: Frac, seed: u64) -> Stepped
-        requires usable { IsUsable self.old.variables code.now.instrs }
+        requires usable { IsTrue (is_usable_code self.old.variables code.now.instrs) }
         requires within { self.old.place < length code.now.instrs }
         ensures keeps { Keeps (length code.now.instrs) self.old self.new }
         ensures steps { (t : Table) (q : ProcessState) → AllAgree t code.now.instrs t → Represents t clock self.old q →
@@ -119,7 +119,7 @@ impl Local {
 
     /// Why the stretch ends here once all steps that were allowed are taken.
     fn end_of_spent(&self, code: &ProcCode, clock: Frac, seed: u64) -> StretchEnd
-        requires usable { IsUsable self.now.variables code.now.instrs }
+        requires usable { IsTrue (is_usable_code self.now.variables code.now.instrs) }
         requires within { self.now.place < length code.now.instrs }
         ensures { (t : Table) (q : ProcessState) → AllAgree t code.now.instrs t → Represents t clock self.now q →
             result ≡ end_before q (silent seed self.now.process clock q) }
@@ -136,7 +136,7 @@ impl Local {
 
     /// Takes at most so many silent steps, up to one that logs.
     pub fn stretch(&mut self, code: &ProcCode, clock: Frac, seed: u64, most: u32) -> Stretch
-        requires usable { IsUsable self.old.variables code.now.instrs }
+        requires usable { IsTrue (is_usable_code self.old.variables code.now.instrs) }
         requires within { self.old.place < length code.now.instrs }
         ensures at_most { result.steps ≤ most }
         ensures keeps { Keeps (length code.now.instrs) self.old self.new }

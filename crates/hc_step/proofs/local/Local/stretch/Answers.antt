@@ -1,17 +1,10 @@
-use Rattle.std.proofs.Common.{◌+◌, ap, sym, subst, ◌∙◌, refl, arith, ℕ, length}
+use Rattle.std.proofs.Common.{◌+◌, ap, subst, ◌∙◌, refl, arith, ℕ, length}
 use Rattle.hc_term.specs.Silent.{silent}
 use Rattle.hc_step.specs.declared.stretch.Stepped.{Stepped}
-use Rattle.hc_step.specs.Usable.{IsUsable}
 use Rattle.hc_step.specs.Stepping.{Steps, end_before}
 use Rattle.hc_step.proofs.Going.{keeps_more}
 use Rattle.hc_step.proofs.Stretching.{ends_logged, ends_otherwise, ends_spent, goes_on}
 use Rattle.hc_step.proofs.local.Local.stretch.Goals as goal
-
-pub step-requires-clause-usable : goal.step-requires-clause-usable
-step-requires-clause-usable c = subst (λ (n : ℕ). IsUsable n c.args.code.now.instrs) (sym c.loop-steps.invariant.kept.same_count) c.requires.usable
-
-pub end_of_spent-requires-clause-usable : goal.end_of_spent-requires-clause-usable
-end_of_spent-requires-clause-usable c = subst (λ (n : ℕ). IsUsable n c.args.code.now.instrs) (sym c.loop-steps.invariant.kept.same_count) c.requires.usable
 
 pub returns-in-Logged-clause-takes : goal.returns-in-Logged-clause-takes
 returns-in-Logged-clause-takes c t q all r =
