@@ -2,7 +2,7 @@
 
 ghost use Rattle.std.specs.Prelude.{◌<◌, length, IsTrue, IfSome};
 ghost use Rattle.hc_rational.specs.Words.{◌≤ℚ◌};
-ghost use Rattle.hc_step.specs.Usable.{IsUsable};
+ghost use Rattle.hc_step.specs.Usable.{is_usable_code};
 
 use crate::acts::Act;
 use crate::showing::{put_item, put_post, put_stretch};
@@ -19,7 +19,7 @@ pub(crate) struct Runner {
     local: Local,
     clock: Frac,
     seed: u64,
-    ghost usable: { IsUsable local.variables code.instrs },
+    ghost usable: { IsTrue (is_usable_code local.variables code.instrs) },
     ghost within: { local.place < length code.instrs },
 }
 
