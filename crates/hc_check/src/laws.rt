@@ -3,7 +3,7 @@
 ghost use Rattle.hc_check.specs.Laws.{OneSystem, OneRefusal, CheckedIsNotRefused};
 
 /// What holds of all expanded sources. There is nothing to run: the clauses are the laws.
-pub fn systems()
+pub fn system_laws()
     ensures one_system { OneSystem }
     ensures one_refusal { OneRefusal }
     ensures not_refused { CheckedIsNotRefused }

@@ -7,4 +7,4 @@ mod numbering;
 
 pub use checking::check;
 pub use hc_finds::{CheckStop, What};
-pub use laws::systems;
+pub use laws::system_laws;

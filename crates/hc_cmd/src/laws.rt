@@ -2,20 +2,20 @@
 
 ghost use Rattle.hc_cmd.specs.Laws.{AcceptedIsSized, OneAcceptedSystem, OneAnswer, SimulationIsBehaviour};
 
-use hc_check::systems;
-use hc_modules::trees;
-use hc_parse::texts;
+use hc_check::system_laws;
+use hc_modules::tree_laws;
+use hc_parse::text_laws;
 use hc_term::step_laws;
 
 /// What holds of every text, and of every accepted one. It runs nothing but laws: the clauses are the laws.
-pub fn accepted_texts()
+pub fn acceptance_laws()
     ensures one_system { OneAcceptedSystem }
     ensures one_answer { OneAnswer }
     ensures sized { AcceptedIsSized }
     ensures simulated { SimulationIsBehaviour }
 {
-    texts();
-    trees();
-    systems();
+    text_laws();
+    tree_laws();
+    system_laws();
     step_laws();
 }

@@ -10,4 +10,4 @@ mod refusal;
 mod simulation;
 
 pub use answering::answer;
-pub use laws::accepted_texts;
+pub use laws::acceptance_laws;

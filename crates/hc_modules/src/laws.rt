@@ -4,13 +4,13 @@ ghost use Rattle.hc_modules.specs.Laws.{OneExpansion, OneRefusal, ExpandedIsNotR
 ghost use Rattle.hc_modules.specs.Well.{FlatsAreWell};
 
 /// What holds of all trees. There is nothing to run: the clauses are the laws.
-pub fn trees()
+pub fn tree_laws()
     ensures one_expansion { OneExpansion }
     ensures one_refusal { OneRefusal }
     ensures not_refused { ExpandedIsNotRefused }
 {}
 
 /// What holds of every expansion of a tree that the grammar has. There is nothing to run: the clause is the law.
-pub fn flats()
+pub fn expansion_laws()
     ensures well { FlatsAreWell }
 {}

@@ -15,4 +15,4 @@ mod written;
 
 pub use expanding::expand;
 pub use flat::{Flat, FlatProcess, ModuleStop};
-pub use laws::{flats, trees};
+pub use laws::{expansion_laws, tree_laws};

@@ -145,78 +145,78 @@ empties h.Ors = true
 empties _ = false
 
 -- what may come behind a sequence, a statement, a condition and an expression
-abbrev pub behind_seq : Kind → Bool
-behind_seq k.CloseRound = true
-behind_seq k.EndBody = true
-behind_seq k.Else = true
-behind_seq k.EndIf = true
-behind_seq k.Comma = true
-behind_seq _ = false
+abbrev pub follow_seq : Kind → Bool
+follow_seq k.CloseRound = true
+follow_seq k.EndBody = true
+follow_seq k.Else = true
+follow_seq k.EndIf = true
+follow_seq k.Comma = true
+follow_seq _ = false
 
-abbrev pub behind_stmt : Kind → Bool
-behind_stmt k.Semicolon = true
-behind_stmt kind = behind_seq kind
+abbrev pub follow_stmt : Kind → Bool
+follow_stmt k.Semicolon = true
+follow_stmt kind = follow_seq kind
 
-abbrev pub behind_cond : Kind → Bool
-behind_cond k.Then = true
-behind_cond k.CloseCurly = true
-behind_cond k.CloseSquare = true
-behind_cond k.Greater = true
-behind_cond _ = false
+abbrev pub follow_cond : Kind → Bool
+follow_cond k.Then = true
+follow_cond k.CloseCurly = true
+follow_cond k.CloseSquare = true
+follow_cond k.Greater = true
+follow_cond _ = false
 
-abbrev pub behind_both : Kind → Bool
-behind_both k.BarBar = true
-behind_both kind = behind_cond kind
+abbrev pub follow_both : Kind → Bool
+follow_both k.BarBar = true
+follow_both kind = follow_cond kind
 
-abbrev pub behind_one : Kind → Bool
-behind_one k.AndAnd = true
-behind_one kind = behind_both kind
+abbrev pub follow_one : Kind → Bool
+follow_one k.AndAnd = true
+follow_one kind = follow_both kind
 
-abbrev pub behind_expr : Kind → Bool
-behind_expr k.Arrow = true
-behind_expr k.And = true
-behind_expr k.Less = true
-behind_expr k.LessEqual = true
-behind_expr k.EqualEqual = true
-behind_expr k.NotEqual = true
-behind_expr k.GreaterEqual = true
-behind_expr kind = behind_one kind || behind_stmt kind
+abbrev pub follow_expr : Kind → Bool
+follow_expr k.Arrow = true
+follow_expr k.And = true
+follow_expr k.Less = true
+follow_expr k.LessEqual = true
+follow_expr k.EqualEqual = true
+follow_expr k.NotEqual = true
+follow_expr k.GreaterEqual = true
+follow_expr kind = follow_one kind || follow_stmt kind
 
-abbrev pub behind_term : Kind → Bool
-behind_term k.Plus = true
-behind_term k.Minus = true
-behind_term kind = behind_expr kind
+abbrev pub follow_term : Kind → Bool
+follow_term k.Plus = true
+follow_term k.Minus = true
+follow_term kind = follow_expr kind
 
 -- what may come behind a branch, its communication and a rate
-abbrev pub behind_branch : Kind → Bool
-behind_branch k.Comma = true
-behind_branch k.CloseRound = true
-behind_branch _ = false
+abbrev pub follow_branch : Kind → Bool
+follow_branch k.Comma = true
+follow_branch k.CloseRound = true
+follow_branch _ = false
 
-abbrev pub behind_io : Kind → Bool
-behind_io k.Arrow = true
-behind_io _ = false
+abbrev pub follow_io : Kind → Bool
+follow_io k.Arrow = true
+follow_io _ = false
 
-abbrev pub behind_rate : Kind → Bool
-behind_rate k.Comma = true
-behind_rate k.And = true
-behind_rate _ = false
+abbrev pub follow_rate : Kind → Bool
+follow_rate k.Comma = true
+follow_rate k.And = true
+follow_rate _ = false
 
 -- what may come behind a phrase that may be empty, or that may end in one
 abbrev pub follow : Head → Kind → Bool
-follow h.Stmt kind = behind_stmt kind
-follow h.Named kind = behind_stmt kind
-follow h.Branch kind = behind_branch kind
-follow h.Meet kind = behind_io kind
-follow h.Rate kind = behind_rate kind
-follow h.One kind = behind_one kind
-follow h.Compare kind = behind_one kind
-follow h.Interrupt kind = behind_stmt kind
-follow h.More kind = behind_seq kind
-follow h.Products kind = behind_term kind
-follow h.Sums kind = behind_expr kind
-follow h.Ands kind = behind_both kind
-follow h.Ors kind = behind_cond kind
+follow h.Stmt kind = follow_stmt kind
+follow h.Named kind = follow_stmt kind
+follow h.Branch kind = follow_branch kind
+follow h.Meet kind = follow_io kind
+follow h.Rate kind = follow_rate kind
+follow h.One kind = follow_one kind
+follow h.Compare kind = follow_one kind
+follow h.Interrupt kind = follow_stmt kind
+follow h.More kind = follow_seq kind
+follow h.Products kind = follow_term kind
+follow h.Sums kind = follow_expr kind
+follow h.Ands kind = follow_both kind
+follow h.Ors kind = follow_cond kind
 follow _ kind = true
 
 abbrev pub table : Table Kind Head Role Mark

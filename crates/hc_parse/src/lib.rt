@@ -13,5 +13,5 @@ mod source_marks;
 mod stmt_marks;
 mod values;
 
-pub use laws::texts;
+pub use laws::text_laws;
 pub use parsing::{ParseStop, parse};

@@ -1,7 +1,7 @@
 -- Numbers are read as they are written.
-use Rattle.std.proofs.Common.{◌≡◌, ◌<◌, ◌≤◌, ℕ, ℤ, zero, suc, ◌+◌, ◌*◌, ◌/◌, ◌%◌, ◌^◌, Bool, true, false, cond, List, [], ◌∷◌, ◌++◌, length, drop, Some, refl, ap, ap₂, sym, ◌∙◌, append_assoc, length-append, arith}
-use Rattle.std.specs.Prelude.{nat_le, ◌==◌, slice_index, decimal, unsigned_abs}
-use Rattle.std.specs.Char.{is_ascii_alphabetic, is_ascii_digit, digit_value}
+use Rattle.std.proofs.Common.{◌≡◌, ◌<◌, ◌≤◌, ℕ, ℤ, zero, suc, ◌+◌, ◌*◌, ◌/◌, ◌%◌, ◌^◌, true, List, [], ◌∷◌, ◌++◌, length, drop, Some, refl, ap, ap₂, sym, ◌∙◌, append_assoc, length-append, arith}
+use Rattle.std.specs.Prelude.{nat_le, slice_index, decimal, unsigned_abs}
+use Rattle.std.specs.Char.{is_ascii_digit, digit_value}
 use Rattle.std.specs.List.{list_all}
 use Rattle.std.specs.Str.Parse.{digits_value, digits_value_after}
 use Rattle.std.proofs.lemmas.Bool.{and_parts, and_from, leb-true}
@@ -16,8 +16,9 @@ use Rattle.hc_token.specs.declared.kind.Kind.TheVariants as k
 use Rattle.hc_token.specs.declared.token.Content.TheVariants as says
 use Rattle.hc_token.specs.Numbers as numbers
 use Rattle.hc_token.specs.Numbers.{front_digits, point_digits, places_digits, point_len, number_len, in_range, number_of, number}
-use Rattle.hc_token.specs.Pieces.{is_blank, number_piece, piece}
+use Rattle.hc_token.specs.Pieces.{number_piece, piece}
 use Rattle.hc_token.specs.Tokens.{token_at, tokens_from}
+use Rattle.hc_token.proofs.Digits.{digit_in_front}
 use Rattle.hc_token.proofs.Ranges.{number_in_range}
 use Rattle.hc_print.specs.Lexemes.{numbered}
 use Rattle.hc_print.specs.Numerals.{last_digits, numeral}
@@ -104,26 +105,6 @@ both_value n places h =
     after_both 0 (decimal q) (last_digits places n [])
     ∙ ap (λ a. digits_value_after 10 a (last_digits places n [])) (decimal_is q small).value
     ∙ last_value places n q ∙ omega (arith, div-add-mod n (10 ^ places))
-
--- two tests that fail, and one that holds
-fourth : {X : Type 0} (a b c d : Bool) (x y z v w : X) → a ≡ false → b ≡ false → c ≡ false → d ≡ true
-    → cond a x (cond b y (cond c z (cond d v w))) ≡ v
-fourth a b c d x y z v w e f g h = rw (e, f, g, h)
-
-not_blank : (b : ℕ) → is_ascii_digit b ≡ true → is_blank b ≡ false
-not_blank b h = grind (arith, nat_tests)
-
-not_hash : (b : ℕ) → is_ascii_digit b ≡ true → (b == 35) ≡ false
-not_hash b h = grind (arith, nat_tests)
-
-not_letter : (b : ℕ) → is_ascii_digit b ≡ true → is_ascii_alphabetic b ≡ false
-not_letter b h = grind (arith, nat_tests)
-
-digit_in_front : (b : ℕ) (y : List ℕ) → is_ascii_digit b ≡ true → piece (b ∷ y) ≡ number_piece (b ∷ y)
-unfolding piece
-digit_in_front b y h =
-    fourth (is_blank b) (b == 35) (is_ascii_alphabetic b) (is_ascii_digit b) _ _ _ _ _
-    (not_blank b h) (not_hash b h) (not_letter b h) h
 
 -- a text whose digits before and behind the point are known
 number_front : (x ds es : List ℕ) → 0 < length ds → list_all is_ascii_digit ds ≡ true

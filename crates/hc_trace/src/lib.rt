@@ -4,5 +4,5 @@
 mod laws;
 mod lines;
 
-pub use laws::ranges;
+pub use laws::range_laws;
 pub use lines::{HEADER, end_line, event_line, header};

@@ -1,7 +1,7 @@
 -- A text of digits alone, as a number of the source language.
-use Rattle.std.proofs.Common.{◌≡◌, ◌<◌, ◌≤◌, ◌-◌, ◌==◌, ℕ, pos, Bool, true, false, cond, List, [], ◌∷◌, ◌++◌, length, drop, Some, refl, sym, ap, ap₂, ◌∙◌, arith}
+use Rattle.std.proofs.Common.{◌≡◌, ◌<◌, ◌≤◌, ◌-◌, ℕ, pos, Bool, true, false, cond, List, [], ◌∷◌, ◌++◌, length, drop, Some, refl, sym, ap, ap₂, ◌∙◌, arith}
 use Rattle.std.specs.Prelude.{take_while}
-use Rattle.std.specs.Char.{is_ascii_alphabetic, is_ascii_digit}
+use Rattle.std.specs.Char.{is_ascii_digit}
 use Rattle.std.specs.List.{list_all}
 use Rattle.std.specs.Str.Parse.{digits_value}
 use Rattle.std.proofs.lemmas.Bool.{and_parts}
@@ -14,8 +14,9 @@ use Rattle.hc_token.specs.declared.token.Content.TheVariants as content
 use Rattle.hc_token.specs.declared.token.Token.{Token}
 use Rattle.hc_token.specs.Numbers as numbers
 use Rattle.hc_token.specs.Numbers.{front_digits, point_digits, places_digits, in_range, number_of}
-use Rattle.hc_token.specs.Pieces.{is_blank, number_piece, piece}
+use Rattle.hc_token.specs.Pieces.{number_piece, piece}
 use Rattle.hc_token.specs.Tokens.{after, first_place, token_at, tokens_from, tokens_of, with_piece}
+use Rattle.hc_token.proofs.Digits.{digit_in_front}
 use Rattle.hc_token.proofs.Ranges.{number_in_range}
 use Rattle.hc_words.specs.Numbers.{IsDecimalText}
 
@@ -46,26 +47,6 @@ all_dropped (x ∷ xs) = all_dropped xs
 
 no_places : (xs : List ℕ) → list_all is_ascii_digit xs ≡ true → places_digits xs ≡ []
 no_places xs h = ap (λ ys. point_digits (drop (length ys) xs)) (all_taken is_ascii_digit xs h) ∙ ap point_digits (all_dropped xs)
-
-not_blank : (b : ℕ) → is_ascii_digit b ≡ true → is_blank b ≡ false
-not_blank b h = grind (arith, nat_tests)
-
-not_hash : (b : ℕ) → is_ascii_digit b ≡ true → (b == 35) ≡ false
-not_hash b h = grind (arith, nat_tests)
-
-not_letter : (b : ℕ) → is_ascii_digit b ≡ true → is_ascii_alphabetic b ≡ false
-not_letter b h = grind (arith, nat_tests)
-
--- three tests that fail, and one that holds
-fourth : {X : Type 0} (a b c d : Bool) (x y z v w : X) → a ≡ false → b ≡ false → c ≡ false → d ≡ true →
-    cond a x (cond b y (cond c z (cond d v w))) ≡ v
-fourth a b c d x y z v w e f g h = rw (e, f, g, h)
-
-digit_in_front : (b : ℕ) (y : List ℕ) → is_ascii_digit b ≡ true → piece (b ∷ y) ≡ number_piece (b ∷ y)
-unfolding piece
-digit_in_front b y h =
-    fourth (is_blank b) (b == 35) (is_ascii_alphabetic b) (is_ascii_digit b) _ _ _ _ _
-    (not_blank b h) (not_hash b h) (not_letter b h) h
 
 digits_in_front : (b : ℕ) (y : List ℕ) → list_all is_ascii_digit (b ∷ y) ≡ true →
     (piece (b ∷ y)).lexeme ≡ Some (number_of (digits_value 10 (b ∷ y)) 0)

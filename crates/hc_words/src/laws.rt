@@ -3,7 +3,7 @@
 ghost use Rattle.hc_words.specs.Laws.{InOrderAsk, OneRequest};
 
 /// What holds of the words of every call. There is nothing to run: the clauses are the laws.
-pub fn calls()
+pub fn call_laws()
     ensures one_request { OneRequest }
     ensures in_order { InOrderAsk }
 {}

@@ -8,6 +8,6 @@ mod numbers;
 mod requests;
 mod settings;
 
-pub use laws::calls;
+pub use laws::call_laws;
 pub use requests::{Request, WordsStop, asked_for};
 pub use settings::Settings;

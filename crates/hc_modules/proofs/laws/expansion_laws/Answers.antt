@@ -1,5 +1,5 @@
 use Rattle.hc_modules.proofs.WellFacts.{well}
-use Rattle.hc_modules.proofs.laws.flats.Goals as goal
+use Rattle.hc_modules.proofs.laws.expansion_laws.Goals as goal
 
 pub returns : goal.returns
 returns c = record { well = well }

@@ -4,27 +4,27 @@ use Rattle.hc_modules.specs.declared.flat.Flat.{Flat}
 use Rattle.hc_modules.specs.Refusals.{IsExpansion}
 use Rattle.hc_check.specs.Checked.{IsChecked}
 use Rattle.hc_cmd.proofs.OneReply.{Decided, one_answer, text_accepted, plain_tells}
-use Rattle.hc_cmd.proofs.laws.accepted_texts.Goals as goal
+use Rattle.hc_cmd.proofs.laws.acceptance_laws.Goals as goal
 
 pub returns : goal.returns
 returns c =
     let decided : Decided = record {
-      one_tree = c.texts.ensures.one_tree;
-      one_refusal = c.texts.ensures.one_refusal;
-      source_not_refused = c.texts.ensures.not_refused;
-      one_expansion = c.trees.ensures.one_expansion;
-      one_stop = c.trees.ensures.one_refusal;
-      expanded_not_refused = c.trees.ensures.not_refused;
-      one_system = c.systems.ensures.one_system;
-      one_check_stop = c.systems.ensures.one_refusal;
-      checked_not_refused = c.systems.ensures.not_refused;
+      one_tree = c.text_laws.ensures.one_tree;
+      one_refusal = c.text_laws.ensures.one_refusal;
+      source_not_refused = c.text_laws.ensures.not_refused;
+      one_expansion = c.tree_laws.ensures.one_expansion;
+      one_stop = c.tree_laws.ensures.one_refusal;
+      expanded_not_refused = c.tree_laws.ensures.not_refused;
+      one_system = c.system_laws.ensures.one_system;
+      one_check_stop = c.system_laws.ensures.one_refusal;
+      checked_not_refused = c.system_laws.ensures.not_refused;
     } in
     record {
       one_system = λ text s t a b.
-          let tree = c.texts.ensures.one_tree text b.tree a.tree b.source a.source in
+          let tree = c.text_laws.ensures.one_tree text b.tree a.tree b.source a.source in
           let expanded = subst (λ (u : Tree). IsExpansion u b.flat) tree b.expanded in
-          let flat = c.trees.ensures.one_expansion a.tree b.flat a.flat expanded a.expanded in
-          c.systems.ensures.one_system a.flat s t a.checked (subst (λ (f : Flat). IsChecked f t) flat b.checked);
+          let flat = c.tree_laws.ensures.one_expansion a.tree b.flat a.flat expanded a.expanded in
+          c.system_laws.ensures.one_system a.flat s t a.checked (subst (λ (f : Flat). IsChecked f t) flat b.checked);
       one_answer = one_answer decided;
       sized = λ text system reply accepted a. text_accepted decided _ text system reply accepted a;
       simulated = λ settings text system reply accepted is a.

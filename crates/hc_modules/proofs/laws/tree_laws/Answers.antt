@@ -1,7 +1,7 @@
 use Rattle.std.proofs.Common.{◌≡◌, ap, sym, ◌∙◌, ℕ, List, slice_get, Some}
 use Rattle.hc_modules.specs.declared.flat.Flat.{Flat}
 use Rattle.hc_modules.specs.declared.flat.FlatProcess.{FlatProcess}
-use Rattle.hc_modules.proofs.laws.trees.Goals as goal
+use Rattle.hc_modules.proofs.laws.tree_laws.Goals as goal
 
 abbrev flat_of : List FlatProcess → ℕ → Flat
 flat_of ps n = record { processes = ps; statements = n }

@@ -1,5 +1,5 @@
 use Rattle.hc_parse.proofs.OneAnswer.{one_tree, one_refusal, not_refused}
-use Rattle.hc_parse.proofs.laws.texts.Goals as goal
+use Rattle.hc_parse.proofs.laws.text_laws.Goals as goal
 
 pub returns-clause-one_tree : goal.returns-clause-one_tree
 returns-clause-one_tree c = one_tree
