@@ -1,0 +1,10 @@
+pub mod Places
+pub mod Beside
+pub mod Once
+pub mod Stretched
+pub mod Showing
+pub mod Told
+pub mod Kept
+pub mod Running
+pub mod NextTurn
+pub mod Finishing
