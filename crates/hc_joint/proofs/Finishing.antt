@@ -47,7 +47,7 @@ module _ (now new : Seen) (k : Keeps now) (none : now.stop ≡ None) (turn : Has
   turns_before : Turns now.task now.turns now.history turn.before None
   turns_before =
       let at = subst (λ (d : Configuration). Turns now.task now.turns now.history d now.stop)
-          (sym (k.only turn.before turn.is_reached.leads)) k.turned in
+      (sym (k.only turn.before turn.is_reached.leads)) k.turned in
       subst (λ (o : Option Stop). Turns now.task now.turns now.history turn.before o) none at
 
   leads_after : Leads now.task (opening now.task) (now.history ++ behind.items) behind.end

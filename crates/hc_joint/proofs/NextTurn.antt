@@ -30,7 +30,7 @@ module _ (s : Scene) (t : Task) (same : s.task ≡ t) (empty : s.history.items �
   pub made_open : IsMade s None 0 0
   made_open =
       let first : Turns s.task 0 [] (opening t) None =
-          subst (λ (k : Task). Turns s.task 0 [] (opening k) None) same no_turn in
+      subst (λ (k : Task). Turns s.task 0 [] (opening k) None) same no_turn in
       record {
         reached = opening t;
         at = at;
@@ -91,11 +91,11 @@ module _ (s : Scene) (turns recomputed : ℕ) (m : IsMade s None turns recompute
         let e = event_behind items s.task p m.reached in
         let f = comes.follows in
         let more : Turns s.task (turns + 1) (items ++ e.items) e.end e.stop =
-            one_more turns items m.reached p m.turned (least_wants m.reached p least) in
+        one_more turns items m.reached p m.turned (least_wants m.reached p least) in
         let stopped : Turns s.task (turns + 1) (items ++ e.items) e.end set =
-            subst (λ (o : Option Stop). Turns s.task (turns + 1) (items ++ e.items) e.end o) (sym comes.stop) more in
+        subst (λ (o : Option Stop). Turns s.task (turns + 1) (items ++ e.items) e.end o) (sym comes.stop) more in
         let behind : Turns s.task (turns + 1) new.history.items e.end set =
-            subst (λ (is : List Item). Turns s.task (turns + 1) is e.end set) (sym f.items) stopped in
+        subst (λ (is : List Item). Turns s.task (turns + 1) is e.end set) (sym f.items) stopped in
         record {
           reached = e.end;
           at = f.at;

@@ -1,5 +1,5 @@
-//! Answers rows of questions to the core, one a line: the silent steps of a process, the end moment of a domain, and
-//! copies.
+//! Answers rows of questions to the core, one a line: the silent steps of a process, the run of a system, the end moment
+//! of a domain, and copies.
 #![tactic(auto)]
 
 mod accepting;

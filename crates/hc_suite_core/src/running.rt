@@ -48,9 +48,11 @@ fn put_stop(text: &mut String, stop: Option<Stop>) -> Result<(), AllocError> {
         Some(Stop::Horizon) => put_item(text, "horizon"),
         Some(Stop::Limit) => put_item(text, "limit"),
         Some(Stop::Overflow { process: None }) => put_item(text, "overflow *"),
-        Some(Stop::Overflow {
-            process: Some(process),
-        }) => {
+        Some(
+            Stop::Overflow {
+                process: Some(process),
+            },
+        ) => {
             put_item(text, "overflow")?;
             put_count(text, u64::from(process))
         }
