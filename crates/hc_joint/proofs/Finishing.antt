@@ -1,5 +1,5 @@
 -- A joint on its way to a stop by turns of the least process, each of which goes on as the canonical steps do.
-use Rattle.std.proofs.Common.{◌≡◌, ◌<◌, refl, sym, ap, subst, ◌∙◌, ℕ, zero, suc, ◌+◌, ◌-◌, ◌++◌, List, length, Option, Some, None, arith}
+use Rattle.std.proofs.Common.{◌≡◌, ◌<◌, refl, sym, ap, subst, ◌∙◌, ℕ, zero, suc, ◌+◌, ◌-◌, ◌++◌, Bool, List, length, Option, Some, None, arith}
 use Rattle.hc_term.specs.declared.task.Task.{Task}
 use Rattle.hc_term.specs.declared.run.Item.{Item}
 use Rattle.hc_term.specs.declared.run.Stop.{Stop}
@@ -13,7 +13,7 @@ use Rattle.hc_runs.proofs.Turning.{least_wants, turns_are_run}
 use Rattle.hc_runs.proofs.Visible.{turns_end}
 use Rattle.hc_runs.proofs.LeastTurns.{least_turn_advances}
 use Rattle.hc_joint.specs.Seen.{Seen}
-use Rattle.hc_joint.specs.Keeps.{Keeps, IsReached, HasTurn, HasCourse, IsFinished, turned}
+use Rattle.hc_joint.specs.Keeps.{Keeps, IsReached, HasTurn, GoesForward, HasCourse, IsFinished, turned}
 
 -- with this stop now, the canonical steps from c have led here, and go on from here where there is none
 abbrev pub LeadsOn : Option Stop → Seen → Seen → Configuration → Type 0
@@ -28,7 +28,7 @@ IsOnCourse None old now = (c : Configuration) → IsReached old c → LeadsOn no
 
 pub begun : (s : Seen) (o : Option Stop) → s.stop ≡ o → IsOnCourse o s s
 begun s (Some stop) e = refl
-begun s None e c is = subst (λ (o : Option Stop). LeadsOn o s s c) (sym e) (c, is, refl)
+begun s None e = λ c is. subst (λ (o : Option Stop). LeadsOn o s s c) (sym e) (c, is, refl)
 
 -- how many turns there may be yet
 abbrev pub left_by : Option Stop → Seen → ℕ
@@ -39,6 +39,10 @@ abbrev pub left : Seen → ℕ
 left s = left_by s.stop s
 
 -- ---- one turn of the least process
+
+pub had_turn : (now new : Seen) (went : Bool) → now.stop ≡ None → GoesForward now.stop now new went → HasTurn now new
+had_turn now new went none forward =
+    (subst (λ (o : Option Stop). GoesForward o now new went) none forward).1
 
 module _ (now new : Seen) (k : Keeps now) (none : now.stop ≡ None) (turn : HasTurn now new) where
   behind : Event
@@ -83,7 +87,7 @@ module _ (now new : Seen) (k : Keeps now) (none : now.stop ≡ None) (turn : Has
     where
       clash : Some stop ≡ None → ⊥
       clash w = cc
-  turn_goes_on None old e on c is =
+  turn_goes_on None old e on = λ c is.
       went_on old c (subst (λ (o : Option Stop). LeadsOn o old now c) none (on c is))
 
   falls_by : (o : Option Stop) → behind.stop ≡ o → left_by o (turned now behind) < left_by None now
@@ -109,4 +113,4 @@ module _ (now new : Seen) (k : Keeps now) (none : now.stop ≡ None) (turn : Has
 -- where a stop stands, the course has ended
 pub course_ended : (o : Option Stop) (old now : Seen) (stop : Stop) → now.stop ≡ Some stop → IsOnCourse o old now → IsFinished o old now
 course_ended (Some first) old now stop e on = on
-course_ended None old now stop e on c is = subst (λ (o : Option Stop). LeadsOn o old now c) e (on c is)
+course_ended None old now stop e on = λ c is. subst (λ (o : Option Stop). LeadsOn o old now c) e (on c is)
