@@ -6,3 +6,5 @@ pub mod Showing
 pub mod Told
 pub mod Kept
 pub mod Running
+pub mod Opened
+pub mod Moves
