@@ -8,3 +8,6 @@ pub mod Kept
 pub mod Running
 pub mod Opened
 pub mod Moves
+pub mod Passed
+pub mod Halting
+pub mod Begun

@@ -32,7 +32,7 @@ same_at xs n d e low =
     let one : Some (get_or xs n d) ≡ Some (get_or xs n e) = sym (slice_get-get_or xs n d low) ∙ slice_get-get_or xs n e low in
     cc
 
-mapped_at : {A B : Type 0} (f : A → B) (xs : List A) (n : ℕ) (x : A) → slice_get xs n ≡ Some x → slice_get (map f xs) n ≡ Some (f x)
+pub mapped_at : {A B : Type 0} (f : A → B) (xs : List A) (n : ℕ) (x : A) → slice_get xs n ≡ Some x → slice_get (map f xs) n ≡ Some (f x)
 mapped_at f xs n x e = slice_get-map f xs n ∙ ap (option_map f) e
 
 -- ---- one after another
