@@ -6,7 +6,7 @@ use Rattle.hc_term.specs.declared.task.Task.{Task}
 use Rattle.hc_term.specs.declared.post.Post.{Post}
 use Rattle.hc_term.specs.declared.run.Item.{Item}
 use Rattle.hc_term.specs.declared.run.Stop.{Stop}
-use Rattle.hc_term.specs.declared.run.Stop.TheVariants.{Horizon, Limit, Overflow}
+use Rattle.hc_term.specs.declared.run.Stop.TheVariants.{Horizon, Overflow}
 use Rattle.hc_term.specs.declared.model.Meeting.{Meeting}
 use Rattle.hc_term.specs.declared.model.Configuration.{Configuration}
 use Rattle.hc_term.specs.Posts.{Passing, NoBound, AtHorizon, Overflows, Took, passing_on}

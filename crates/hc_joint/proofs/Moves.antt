@@ -1,5 +1,5 @@
 -- Members that are moved one after another, each with its process.
-use Rattle.std.proofs.Common.{◌≡◌, ◌<◌, ◌≤◌, refl, sym, ap, subst, ◌∙◌, ℕ, ◌+◌, Bool, true, false, not, List, map, length, slice_get, Option, Some, None, IfSome, ◌⊎◌, inl, inr, arith, rules}
+use Rattle.std.proofs.Common.{◌≡◌, ◌<◌, ◌≤◌, refl, sym, ap, subst, ◌∙◌, ℕ, ◌+◌, true, false, not, List, map, length, slice_get, Option, Some, None, IfSome, ◌⊎◌, inl, inr, arith, rules}
 use Rattle.std.proofs.Math.ListN.{get_or, set}
 use Rattle.std.proofs.lemmas.Bool.{false≢true, cases_lt}
 use Rattle.std.proofs.lemmas.List.{length-set, length-map, get_or-set_same, get_or-set_other}
@@ -59,9 +59,9 @@ module _ (by : Rational) where
     moved_at k d within (inr h) h' =
         let here : k ≡ n = omega (arith, h, h') in
         let was : get_or old k d ≡ get_or new n m =
-            ap (λ (i : ℕ). get_or old i d) here ∙ same_at old n d m low ∙ sym (first.after n m (omega arith)) in
+        ap (λ (i : ℕ). get_or old i d) here ∙ same_at old n d m low ∙ sym (first.after n m (omega arith)) in
         let is : get_or (set new n next) k d ≡ next =
-            ap (λ (i : ℕ). get_or (set new n next) i d) here ∙ get_or-set_same new n next d (omega (arith, low, first.counted)) in
+        ap (λ (i : ℕ). get_or (set new n next) i d) here ∙ get_or-set_same new n next d (omega (arith, low, first.counted)) in
         subst (λ (x : Member). Moves by x (get_or (set new n next) k d)) (sym was)
         (subst (λ (x : Member). Moves by (get_or new n m) x) (sym is) moves)
 

@@ -12,7 +12,7 @@ use Rattle.hc_term.specs.declared.run.Item.{Item}
 use Rattle.hc_term.specs.declared.model.Configuration.{Configuration}
 use Rattle.hc_term.specs.Communication.{moved}
 use Rattle.hc_term.specs.Moved.{moved_post}
-use Rattle.hc_term.specs.Posts.{post_fits, delay_fits}
+use Rattle.hc_term.specs.Posts.{post_fits}
 use Rattle.hc_term.specs.Step.{opening, posts, delayed, Leads}
 use Rattle.hc_term.specs.Together.{is_within}
 use Rattle.hc_term.proofs.Pieces.{leads_on}

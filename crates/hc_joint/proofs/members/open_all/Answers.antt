@@ -1,4 +1,4 @@
-use Rattle.std.proofs.Common.{◌≡◌, ◌∙◌, sym, ap, subst, ℕ, ◌+◌, List, take}
+use Rattle.std.proofs.Common.{◌∙◌, sym, ap, subst, ℕ, ◌+◌, List, take}
 use Rattle.hc_rational.specs.Words.{Rational}
 use Rattle.hc_term.specs.Step.{opening_of}
 use Rattle.hc_joint.specs.declared.member.Member.{Member}
@@ -16,6 +16,6 @@ loop-process-preserved c =
     (c.in_ok-open.ensures clock) in
     record {
       counted = c.in_ok-push.ensures.len ∙ ap (λ (n : ℕ). n + 1) c.loop-process.invariant.counted;
-      opened = subst (λ (l : List Member). AllOpen (take (at + 1) ps) l) (sym c.in_ok-push.ensures.items)
-      (open_more ps c.loop-process.members.items at process member c.loop-process-test.true c.process-item.is c.loop-process.invariant.opened is);
+      opened = subst (λ (l : List Member). AllOpen (take (at + 1) ps) l) (sym {A = List Member} c.in_ok-push.ensures.items)
+          (open_more ps c.loop-process.members.items at process member c.loop-process-test.true c.process-item.is c.loop-process.invariant.opened is);
     }

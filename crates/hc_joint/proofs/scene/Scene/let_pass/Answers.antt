@@ -1,4 +1,4 @@
-use Rattle.std.proofs.Common.{◌≡◌, ◌∙◌, refl, sym, ap, subst, true, List, map, length}
+use Rattle.std.proofs.Common.{◌≡◌, ◌∙◌, refl, sym, subst, true, List, map}
 use Rattle.std.specs.List.{list_all}
 use Rattle.hc_rational.specs.Words.{◌+ℚ◌}
 use Rattle.hc_term.specs.Communication.{moved}

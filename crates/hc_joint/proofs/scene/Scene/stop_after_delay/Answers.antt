@@ -1,4 +1,4 @@
-use Rattle.std.proofs.Common.{◌≡◌, ◌<◌, ◌∙◌, sym, ap, List, Some, arith}
+use Rattle.std.proofs.Common.{◌<◌, ◌∙◌, sym, ap, List, Some, arith}
 use Rattle.hc_term.specs.declared.run.Stop.{Stop}
 use Rattle.hc_term.specs.declared.post.Post.{Post}
 use Rattle.hc_board.specs.declared.delayed.Delayed.TheVariants as said

@@ -1,4 +1,4 @@
-use Rattle.std.proofs.Common.{◌≡◌, ◌∙◌, ◌-◌, refl, sym, ap, List, Some}
+use Rattle.std.proofs.Common.{◌∙◌, ◌-◌, refl, sym, ap, List, Some}
 use Rattle.hc_term.specs.declared.run.Stop.{Stop}
 use Rattle.hc_term.specs.declared.post.Post.{Post}
 use Rattle.hc_term.specs.Step.{delayed}
@@ -66,9 +66,11 @@ stop_after_delay-requires c =
     c.if-is_some.false c.in-Took.ensures.answer)
     c.requires.quiet.2 in
     let passed = c.let_pass.ensures at
-    (is_passing s at is by passes _ (record { task = refl; items = refl; members = refl; clock = refl }) c.in-Took.ensures.after) in
-    (delayed by at, passed.at,
-    over_after s at is by passes _ _ passed (record { task = refl; items = refl; members = refl; clock = refl }))
+    (is_passing s at is by passes _ (record { task = refl; items = refl; members = refl; clock = refl }) c.in-Took.ensures.after) in (
+      delayed by at,
+      passed.at,
+      over_after s at is by passes _ _ passed (record { task = refl; items = refl; members = refl; clock = refl }),
+    )
 
 pub returns-in-Took : goal.returns-in-Took
 returns-in-Took c at is quiet =
