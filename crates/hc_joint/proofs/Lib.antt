@@ -5,6 +5,10 @@ pub mod Stretched
 pub mod Showing
 pub mod Told
 pub mod Kept
-pub mod Running
 pub mod NextTurn
 pub mod Finishing
+pub mod Opened
+pub mod Moves
+pub mod Passed
+pub mod Halting
+pub mod Begun
