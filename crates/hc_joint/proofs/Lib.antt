@@ -1,0 +1,11 @@
+pub mod Places
+pub mod Beside
+pub mod Once
+pub mod Stretched
+pub mod Showing
+pub mod Told
+pub mod Kept
+pub mod Following
+pub mod Running
+pub mod Meetings
+pub mod Events
