@@ -12,3 +12,7 @@ pub mod Moves
 pub mod Passed
 pub mod Halting
 pub mod Begun
+pub mod Following
+pub mod Running
+pub mod Meetings
+pub mod Events
