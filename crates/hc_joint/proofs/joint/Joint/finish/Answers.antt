@@ -20,7 +20,7 @@ loop-self-smaller c =
     let now = c.loop-self.self in
     let new = c.forward.new.self in
     let kept = subst Keeps c.self.view_is (made_keeps j.scene j.stop j.turns j.recomputed c.self.invariant) in
-    let none = ap (λ (s : Seen). s.stop) (sym c.self.view_is) ∙ none_stands j.stop (c.loop-self-test.ensures tt) in
+    let none = ap (λ (s : Seen). s.stop) (sym c.self.view_is) ∙ none_stands j.stop (c.loop-self-test.ensures) in
     turn_falls now new kept none (had_turn now new c.forward.result none c.forward.ensures)
 
 pub loop-self-preserved : goal.loop-self-preserved
@@ -30,7 +30,7 @@ loop-self-preserved c =
     let new = c.forward.new.self in
     let old = c.args.self.now in
     let kept = subst Keeps c.self.view_is (made_keeps j.scene j.stop j.turns j.recomputed c.self.invariant) in
-    let none = ap (λ (s : Seen). s.stop) (sym c.self.view_is) ∙ none_stands j.stop (c.loop-self-test.ensures tt) in
+    let none = ap (λ (s : Seen). s.stop) (sym c.self.view_is) ∙ none_stands j.stop (c.loop-self-test.ensures) in
     let turn = had_turn now new c.forward.result none c.forward.ensures in
     record {
       task = turn_keeps_task now new kept none turn ∙ c.loop-self.invariant.task;
