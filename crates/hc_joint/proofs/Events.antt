@@ -1,6 +1,6 @@
 -- An event out of its parts: all meetings and the delay, what follows a stretch, and the whole.
 use Rattle.std.proofs.Common.{◌≡◌, ◌≢◌, refl, sym, ap, subst, ◌∙◌, ℕ, zero, suc, ◌+◌, ◌-◌, ◌<◌, ◌≤◌, min, Bool, true, false, List, [], ◌∷◌, ◌++◌, length, slice_get, Option, Some, None, arith}
-use Rattle.std.proofs.lemmas.List.{append_assoc}
+use Rattle.std.proofs.lemmas.List.{append_assoc, length_push}
 use Rattle.hc_limits.specs.Limits.{most_silent_steps}
 use Rattle.hc_rational.specs.Words.{Rational}
 use Rattle.hc_term.specs.declared.task.Task.{Task}
@@ -18,7 +18,7 @@ use Rattle.hc_term.specs.Event.{Event, Progress, progress, still, event_after, l
 use Rattle.hc_term.proofs.EventRuns.{length-silent_items}
 use Rattle.hc_runs.specs.Turns.{event_behind}
 use Rattle.hc_joint.specs.declared.scene.Scene.{Scene}
-use Rattle.hc_joint.specs.Stands.{IsAt}
+use Rattle.hc_joint.specs.Stands.{IsAt, IsSomewhere}
 use Rattle.hc_joint.specs.Parts.{room, Follows, Comes, Runs, Meets}
 use Rattle.hc_joint.proofs.Places.{beside}
 use Rattle.hc_joint.proofs.Following.{room_after, follows_on, comes_after, stays}
@@ -68,6 +68,31 @@ pub under_next : (old now new : Scene) → 0 < room now →
     Under old new c
 under_next old now new left meets c u =
     under_by old now new c u left (ready now.task u.reached) refl (meets u.reached u.follows.at)
+
+-- how many items there are tells whether there is room
+pub under_left : (old now : Scene) (n : ℕ) → length now.history.items ≡ n → n < old.task.limit → (c : Configuration) → Under old now c →
+    0 < room now
+under_left old now n counted below c u =
+    let limit : now.task.limit ≡ old.task.limit = ap (λ (t : Task). t.limit) u.follows.task in
+    omega (arith, limit, counted, below)
+
+pub under_none : (old now : Scene) (n : ℕ) → length now.history.items ≡ n → old.task.limit ≤ n → (c : Configuration) → Under old now c →
+    room now ≡ 0
+under_none old now n counted above c u =
+    let limit : now.task.limit ≡ old.task.limit = ap (λ (t : Task). t.limit) u.follows.task in
+    omega (arith, limit, counted, above)
+
+-- a meeting is one item
+one_more : (now new : Scene) (d : Configuration) (o : Option Meeting) → Meets now new d o true →
+    length new.history.items ≡ length now.history.items + 1
+one_more now new d None h = let wrong = h.0 in cc
+one_more now new d (Some m) h =
+    let step : Item = record { at = d.clock; step = Comm m.channel m.value } in
+    ap length h.1.items ∙ length_push now.history.items step
+
+pub met_more : (old now new : Scene) → ((d : Configuration) → IsAt now d → Meets now new d (ready now.task d) true) →
+    (c : Configuration) → Under old now c → length new.history.items ≡ length now.history.items + 1
+met_more old now new meets c u = one_more now new u.reached (ready now.task u.reached) (meets u.reached u.follows.at)
 
 -- no room is left
 pub under_limit : (old now : Scene) → room now ≡ 0 → (c : Configuration) → Under old now c →
@@ -151,6 +176,18 @@ get-there : {A : Type 0} (xs : List A) (p : ℕ) → p < length xs → (x : A) �
 get-there [] p h = absurd (omega arith)
 get-there (x ∷ xs) zero h = (x, refl)
 get-there (x ∷ xs) (suc p) h = get-there xs p (omega arith)
+
+-- after the steps of the process the scene stands for what they led to
+pub somewhere_after : (old mid : Scene) (p most : ℕ) (end : StretchEnd) → p < length old.members.items →
+    ((c : Configuration) (q : ProcessState) → IsAt old c → slice_get c.processes p ≡ Some q →
+        Runs p old mid end c (progress most old.task.seed p c.clock q)) →
+    IsSomewhere old → IsSomewhere mid
+somewhere_after old mid p most end there runs here =
+    let c = here.0 in
+    let at = here.1 in
+    let q = get-there c.processes p (omega (arith, there, at.members.counted)) in
+    let r = runs c q.0 at q.1 in
+    (replaced c p (progress most old.task.seed p c.clock q.0).next, r.follows.at)
 
 -- the event of a process in this state, of which each step counts
 module _ (old mid new : Scene) (p most : ℕ) (end : StretchEnd) (set : Option Stop) (least : most ≡ min most_silent_steps (room old))
