@@ -26,18 +26,6 @@ all_but_one clock ms qs p m q all here = record {
   by_place k n r (inr h) (inl i) = absurd (h.0 i.0)
   by_place k n r (inr h) (inr i) = all.each k n r h.1 i.1
 
--- the member of a process
-pub record HasMember (clock : Rational) (ms : List Member) (p : ℕ) (q : ProcessState) : Type 0 where
-  pub member : Member
-  pub there : slice_get ms p ≡ Some member
-  pub is : IsIn p clock member q
-
-pub member_of : (clock : Rational) (ms : List Member) (qs : List ProcessState) (p : ℕ) (q : ProcessState) →
-    AllIn clock ms qs → slice_get qs p ≡ Some q → HasMember clock ms p q
-member_of clock ms qs p q all at =
-    let m = beside qs ms p q (sym all.counted) at in
-    record { member = m.0; there = m.1; is = all.each p m.0 q m.1 at }
-
 -- what they show
 pub record ShowSame (clock : Rational) (ms : List Member) (qs : List ProcessState) : Type 0 where
   pub counted : length ms ≡ length qs

@@ -109,8 +109,3 @@ module _ (now new : Seen) (k : Keeps now) (none : now.stop ≡ None) (turn : Has
 
   pub turn_keeps_recomputed : new.recomputed ≡ now.recomputed
   turn_keeps_recomputed = ap (λ (s : Seen). s.recomputed) turn.after
-
--- where a stop stands, the course has ended
-pub course_ended : (o : Option Stop) (old now : Seen) (stop : Stop) → now.stop ≡ Some stop → IsOnCourse o old now → IsFinished o old now
-course_ended (Some first) old now stop e on = on
-course_ended None old now stop e on = λ c is. subst (λ (o : Option Stop). LeadsOn o old now c) e (on c is)

@@ -1,5 +1,6 @@
 -- One meeting: what is ready on the board, and what comes of it when both are told.
 use Rattle.std.proofs.Common.{◌≡◌, refl, sym, ap, ap₂, subst, ◌∙◌, ℕ, zero, suc, ◌<◌, ◌-◌, Bool, true, false, List, [], ◌∷◌, ◌++◌, map, length, slice_get, slice_set, Option, Some, None, arith}
+use Rattle.std.proofs.lemmas.Option.{slice_get_within}
 use Rattle.hc_rational.specs.Words.{Rational}
 use Rattle.hc_term.specs.declared.run.Step.TheVariants.{Comm}
 use Rattle.hc_term.specs.declared.run.Item.{Item}
@@ -25,22 +26,10 @@ use Rattle.hc_joint.proofs.Following.{becomes-follows}
 pub ready_shown : (s : Scene) (c : Configuration) → IsAt s c → first_meeting s.board.channels s.board.posts ≡ ready s.task c
 ready_shown s c at = ap₂ first_meeting at.channels at.shown
 
--- ---- no channel is ready
-
-pub meets_none : (old new : Scene) (c : Configuration) → IsAt old c → first_meeting old.board.channels old.board.posts ≡ None →
-    new ≡ old → Meets old new c (ready old.task c) false
-meets_none old new c at none same =
-    subst (λ (o : Option Meeting). Meets old new c o false) (sym none ∙ ready_shown old c at) (refl, same)
-
--- ---- one is
+-- ---- a channel is ready
 
 pub joins_here : (s : Scene) (c : Configuration) (m : Meeting) → IsAt s c → first_meeting s.board.channels s.board.posts ≡ Some m → Joins m c
 joins_here s c m at e = (ready_joins s.task s.history.items c m at.leads (sym (ready_shown s c at) ∙ e)).1
-
-get-below : {A : Type 0} (xs : List A) (p : ℕ) (x : A) → slice_get xs p ≡ Some x → p < length xs
-get-below [] p x e = cc
-get-below (y ∷ xs) zero x e = omega arith
-get-below (y ∷ xs) (suc p) x e = let rest = get-below xs p x e in omega (arith, rest)
 
 -- both that meet have members, and their posts
 pub record AreThere (m : Meeting) (s : Scene) : Type 0 where
@@ -52,8 +41,8 @@ pub there_by : (s : Scene) (c : Configuration) (m : Meeting) → IsAt s c → fi
     AreThere m s
 there_by s c m at e =
     let j = joins_here s c m at e in
-    let one = get-below c.processes m.sender j.sender j.sender_is in
-    let two = get-below c.processes m.receiver j.receiver j.receiver_is in
+    let one = slice_get_within c.processes m.sender j.sender j.sender_is in
+    let two = slice_get_within c.processes m.receiver j.receiver j.receiver_is in
     record {
       sender = omega (arith, one, at.members.counted);
       receiver = omega (arith, two, at.members.counted);

@@ -39,18 +39,6 @@ module _ (s : Scene) (t : Task) (same : s.task ≡ t) (empty : s.history.items �
         compared = omega arith;
       }
 
-  pub seen_open : seen s.task s.clock s.history.items None 0 0 ≡ opened t
-  seen_open =
-      ap (λ (k : Task). seen k s.clock s.history.items None 0 0) same
-      ∙ ap (λ (q : Rational). seen t q s.history.items None 0 0) at.clock
-      ∙ ap (λ (is : List Item). seen t zero_ℚ is None 0 0) empty
-
--- ---- what is shown
-
-pub as_many_posts : (s : Scene) (c : Configuration) → IsAt s c → length s.board.posts ≡ length s.members.items
-as_many_posts s c at =
-    ap (λ (ps : List Post). length ps) at.shown ∙ length-map c.processes (post c.clock) ∙ sym at.members.counted
-
 -- ---- one more turn
 
 pub none_stands : (o : Option Stop) → is_some o ≡ false → o ≡ None

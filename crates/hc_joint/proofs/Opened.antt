@@ -38,9 +38,6 @@ all_open-push ps ms p m all is = record {
   by_place n r q clock (inr h) (inl i) = absurd (omega (arith, h.0, i.0, all.counted))
   by_place n r q clock (inr h) (inr i) = all.each n r q clock h.1 i.1
 
-pub none_open : (ps : List Process) → AllOpen (take 0 ps) []
-none_open ps = record { counted = refl; each = λ n m p clock at there. cc }
-
 pub open_more : (ps : List Process) (ms : List Member) (n : ℕ) (p : Process) (m : Member) → n < length ps → p ≡ get_or ps n p →
     AllOpen (take n ps) ms → ((clock : Rational) → IsIn n clock m (opening_of p)) → AllOpen (take (n + 1) ps) (ms ++ m ∷ [])
 open_more ps ms n p m within there all is =

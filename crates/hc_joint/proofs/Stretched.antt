@@ -46,14 +46,7 @@ quiet-push clock p before now new n h e =
     items-push clock p before now new nothing (replicate n nothing) h e
     ∙ ap (λ (ls : List (Option Rational)). before ++ silent_items clock p ls) (sym one)
 
--- a stretch leads on, and shows what the process shows after it
-module _ (t : Task) (p : ℕ) where
-  pub stretch_leads : (before : List Item) (c : Configuration) (n : ℕ) (q : ProcessState) → Leads t (opening t) before c →
-      slice_get c.processes p ≡ Some q → let g = progress n t.seed p c.clock q in
-      Leads t (opening t) (before ++ silent_items c.clock p g.logs) (replaced c p g.next)
-  stretch_leads before c n q run at =
-      let g = progress n t.seed p c.clock q in
-      leads_on t (opening t) c (replaced c p g.next) before (silent_items c.clock p g.logs) run (progress-stretches t p n c q at).leads
+-- ---- what is shown after a stretch
 
 set_shown : (clock : Rational) (qs : List ProcessState) (p : ℕ) (q : ProcessState) →
     map (post clock) (slice_set qs p q) ≡ slice_set (map (post clock) qs) p (post clock q)
