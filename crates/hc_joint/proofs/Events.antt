@@ -1,8 +1,7 @@
 -- An event out of its parts: all meetings and the delay, what follows a stretch, and the whole.
-use Rattle.std.proofs.Common.{◌≡◌, ◌≢◌, refl, sym, ap, subst, ◌∙◌, ℕ, zero, suc, ◌+◌, ◌-◌, ◌<◌, ◌≤◌, min, Bool, true, false, List, [], ◌∷◌, ◌++◌, length, slice_get, Option, Some, None, arith}
+use Rattle.std.proofs.Common.{◌≡◌, ◌≢◌, refl, sym, ap, subst, ◌∙◌, ℕ, zero, suc, ◌+◌, ◌-◌, ◌<◌, ◌≤◌, min, true, false, List, [], ◌∷◌, ◌++◌, length, slice_get, Option, Some, None, arith}
 use Rattle.std.proofs.lemmas.List.{append_assoc, length_push}
 use Rattle.hc_limits.specs.Limits.{most_silent_steps}
-use Rattle.hc_rational.specs.Words.{Rational}
 use Rattle.hc_term.specs.declared.task.Task.{Task}
 use Rattle.hc_term.specs.declared.run.Step.TheVariants.{Comm}
 use Rattle.hc_term.specs.declared.run.Item.{Item}
@@ -14,13 +13,12 @@ use Rattle.hc_term.specs.declared.model.ProcessState.{ProcessState}
 use Rattle.hc_term.specs.declared.model.Meeting.{Meeting}
 use Rattle.hc_term.specs.declared.model.Configuration.{Configuration}
 use Rattle.hc_term.specs.Step.{ready, passing, replaced, met}
-use Rattle.hc_term.specs.Event.{Event, Progress, progress, still, event_after, last_part_by, meetings_by, meetings, second_part, silent_items, event_by, event_of, event}
+use Rattle.hc_term.specs.Event.{Event, progress, still, event_after, last_part_by, meetings_by, meetings, second_part, silent_items, event_by, event_of}
 use Rattle.hc_term.proofs.EventRuns.{length-silent_items}
 use Rattle.hc_runs.specs.Turns.{event_behind}
 use Rattle.hc_joint.specs.declared.scene.Scene.{Scene}
 use Rattle.hc_joint.specs.Stands.{IsAt, IsSomewhere}
 use Rattle.hc_joint.specs.Parts.{room, Follows, Comes, Runs, Meets}
-use Rattle.hc_joint.proofs.Places.{beside}
 use Rattle.hc_joint.proofs.Following.{room_after, follows_on, comes_after, stays}
 
 event_after-append : (is js : List Item) (e : Event) → event_after is (event_after js e) ≡ event_after (is ++ js) e
@@ -50,8 +48,8 @@ module _ (old now new : Scene) (c : Configuration) (u : Under old now c) (left :
       let is : ready t d ≡ Some m = ap (λ (x : Task). ready x d) (sym u.follows.task) ∙ found in
       let less : room now ≡ suc (room new) = omega (arith, left, room_after now new (step ∷ []) (met m d) f) in
       let one : meetings (room now) t d ≡ event_after (step ∷ []) (meetings (room new) t (met m d)) =
-          ap (λ (n : ℕ). meetings n t d) less
-          ∙ ap (meetings_by d (meetings (room new) t) (last_part_by (room new) t d (passing t d))) is in
+      ap (λ (n : ℕ). meetings n t d) less
+      ∙ ap (meetings_by d (meetings (room new) t) (last_part_by (room new) t d (passing t d))) is in
       record {
         reached = met m d;
         more = u.more ++ step ∷ [];
@@ -99,7 +97,7 @@ pub under_limit : (old now : Scene) → room now ≡ 0 → (c : Configuration) �
     Comes old now (meetings (room old) old.task c) (Some Limit)
 under_limit old now none c u =
     let all : meetings (room old) old.task c ≡ event_after u.more (still u.reached (Some Limit)) =
-        u.rest ∙ ap (λ (n : ℕ). event_after u.more (meetings n old.task u.reached)) none in
+    u.rest ∙ ap (λ (n : ℕ). event_after u.more (meetings n old.task u.reached)) none in
     let stop : Comes now now (still u.reached (Some Limit)) (Some Limit) = record { follows = stays now u.reached u.follows.at; stop = refl } in
     subst (λ (e : Event). Comes old now e (Some Limit)) (sym all) (comes_after old now now u.more u.reached (still u.reached (Some Limit)) (Some Limit) u.follows stop)
 
@@ -109,7 +107,7 @@ Waits s new set =
     (d : Configuration) → IsAt s d → ready s.task d ≡ None → Comes s new (last_part_by (room s - 1) s.task d (passing s.task d)) set
 
 -- where no two met no channel is ready
-pub quiet_by : (now mid : Scene) (d : Configuration) (o : Option Meeting) → ready now.task d ≡ o → Meets now mid d o false →
+quiet_by : (now mid : Scene) (d : Configuration) (o : Option Meeting) → ready now.task d ≡ o → Meets now mid d o false →
     (ready now.task d ≡ None) × (mid ≡ now)
 quiet_by now mid d None e h = (e, h.1)
 quiet_by now mid d (Some m) e h = let wrong = h.0 in cc
@@ -118,8 +116,7 @@ pub quiet_here : (old now mid : Scene) (c : Configuration) → Under old now c �
     ((d : Configuration) → IsAt now d → Meets now mid d (ready now.task d) false) →
     (d : Configuration) × IsAt mid d × (ready mid.task d ≡ None)
 quiet_here old now mid c u meets =
-    let q = quiet_by now mid u.reached (ready now.task u.reached) refl (meets u.reached u.follows.at) in
-    (
+    let q = quiet_by now mid u.reached (ready now.task u.reached) refl (meets u.reached u.follows.at) in (
       u.reached,
       subst (λ (s : Scene). IsAt s u.reached) (sym q.1) u.follows.at,
       subst (λ (s : Scene). ready s.task u.reached ≡ None) (sym q.1) q.0,
@@ -134,12 +131,12 @@ under_waits old now mid new set left meets waits c u =
     let q = quiet_by now mid d (ready now.task d) refl (meets d u.follows.at) in
     let waiting : Waits now new set = subst (λ (s : Scene). Waits s new set) q.1 waits in
     let last : Comes now new (last_part_by (room now - 1) t d (passing t d)) set =
-        subst (λ (x : Task). Comes now new (last_part_by (room now - 1) x d (passing x d)) set) u.follows.task (waiting d u.follows.at q.0) in
+    subst (λ (x : Task). Comes now new (last_part_by (room now - 1) x d (passing x d)) set) u.follows.task (waiting d u.follows.at q.0) in
     let is : ready t d ≡ None = ap (λ (x : Task). ready x d) (sym u.follows.task) ∙ q.0 in
     let more : room now ≡ suc (room now - 1) = omega (arith, left) in
     let one : meetings (room now) t d ≡ last_part_by (room now - 1) t d (passing t d) =
-        ap (λ (n : ℕ). meetings n t d) more
-        ∙ ap (meetings_by d (meetings (room now - 1) t) (last_part_by (room now - 1) t d (passing t d))) is in
+    ap (λ (n : ℕ). meetings n t d) more
+    ∙ ap (meetings_by d (meetings (room now - 1) t) (last_part_by (room now - 1) t d (passing t d))) is in
     subst (λ (e : Event). Comes old new e set) (sym (u.rest ∙ ap (event_after u.more) one))
     (comes_after old now new u.more d (last_part_by (room now - 1) t d (passing t d)) set u.follows last)
 
@@ -157,7 +154,7 @@ pub second-unfit : (s : Scene) (p : ℕ) (c : Configuration) (end : StretchEnd) 
 second-unfit s p c end at left unfit =
     let more : room s ≡ suc (room s - 1) = omega (arith, left) in
     let is : second_part (room s) s.task p c end ≡ still c (Some (Overflow (Some p))) =
-        ap (λ (n : ℕ). second_part n s.task p c end) more ∙ ap (second_part (suc (room s - 1)) s.task p c) unfit in
+    ap (λ (n : ℕ). second_part n s.task p c end) more ∙ ap (second_part (suc (room s - 1)) s.task p c) unfit in
     subst (λ (e : Event). Comes s s e (Some (Overflow (Some p)))) (sym is) (record { follows = stays s c at; stop = refl })
 
 -- else the communications follow
@@ -180,7 +177,7 @@ get-there (x ∷ xs) (suc p) h = get-there xs p (omega arith)
 -- after the steps of the process the scene stands for what they led to
 pub somewhere_after : (old mid : Scene) (p most : ℕ) (end : StretchEnd) → p < length old.members.items →
     ((c : Configuration) (q : ProcessState) → IsAt old c → slice_get c.processes p ≡ Some q →
-        Runs p old mid end c (progress most old.task.seed p c.clock q)) →
+    Runs p old mid end c (progress most old.task.seed p c.clock q)) →
     IsSomewhere old → IsSomewhere mid
 somewhere_after old mid p most end there runs here =
     let c = here.0 in
@@ -192,7 +189,7 @@ somewhere_after old mid p most end there runs here =
 -- the event of a process in this state, of which each step counts
 module _ (old mid new : Scene) (p most : ℕ) (end : StretchEnd) (set : Option Stop) (least : most ≡ min most_silent_steps (room old))
     (runs : (c : Configuration) (q : ProcessState) → IsAt old c → slice_get c.processes p ≡ Some q →
-        Runs p old mid end c (progress most old.task.seed p c.clock q))
+    Runs p old mid end c (progress most old.task.seed p c.clock q))
     (goes : (d : Configuration) → IsAt mid d → Comes mid new (second_part (room mid) mid.task p d end) set) where
   event_in : (c : Configuration) (q : ProcessState) → IsAt old c → slice_get c.processes p ≡ Some q →
       Comes old new (event_by (room old) old.task p c (progress most old.task.seed p c.clock q)) set
@@ -203,7 +200,7 @@ module _ (old mid new : Scene) (p most : ℕ) (end : StretchEnd) (set : Option S
       let is = silent_items c.clock p g.logs in
       let r = runs c q at here in
       let left : room mid ≡ room old - length g.logs =
-          room_after old mid is d r.follows ∙ ap (λ (n : ℕ). room old - n) (length-silent_items c.clock p g.logs) in
+      room_after old mid is d r.follows ∙ ap (λ (n : ℕ). room old - n) (length-silent_items c.clock p g.logs) in
       let rest : Comes mid new (second_part (room mid) mid.task p d end) set = goes d r.follows.at in
       let by_task = subst (λ (x : Task). Comes mid new (second_part (room mid) x p d end) set) r.follows.task rest in
       let by_room = subst (λ (n : ℕ). Comes mid new (second_part n t p d end) set) left by_task in
@@ -216,6 +213,6 @@ module _ (old mid new : Scene) (p most : ℕ) (end : StretchEnd) (set : Option S
       let q = get-there c.processes p (omega (arith, there, at.members.counted)) in
       let n = min most_silent_steps (room old) in
       let steps : Comes old new (event_by (room old) old.task p c (progress n old.task.seed p c.clock q.0)) set =
-          subst (λ (k : ℕ). Comes old new (event_by (room old) old.task p c (progress k old.task.seed p c.clock q.0)) set) least
-          (event_in c q.0 at q.1) in
+      subst (λ (k : ℕ). Comes old new (event_by (room old) old.task p c (progress k old.task.seed p c.clock q.0)) set) least
+      (event_in c q.0 at q.1) in
       subst (λ (o : Option ProcessState). Comes old new (event_of (room old) old.task p c o) set) (sym q.1) steps

@@ -1,7 +1,6 @@
 -- What comes of parts of an event, one after the other.
-use Rattle.std.proofs.Common.{◌≡◌, refl, sym, ap, subst, ◌∙◌, ℕ, ◌+◌, ◌-◌, ◌≤◌, List, [], ◌∷◌, ◌++◌, length, length-append, Option, arith}
+use Rattle.std.proofs.Common.{◌≡◌, refl, sym, ap, subst, ◌∙◌, ◌+◌, ◌-◌, ◌≤◌, List, [], ◌++◌, length, length-append, Option, arith}
 use Rattle.std.proofs.lemmas.List.{append_assoc, append-nil}
-use Rattle.hc_rational.specs.Words.{Rational}
 use Rattle.hc_term.specs.declared.task.Task.{Task}
 use Rattle.hc_term.specs.declared.run.Item.{Item}
 use Rattle.hc_term.specs.declared.run.Stop.{Stop}
@@ -44,10 +43,11 @@ becomes-follows old new more c d at b = record {
       let run = leads_on old.task (opening old.task) c d old.history.items more at.leads b.run in
       subst (λ (t : Task). Leads t (opening t) new.history.items d) (sym b.task)
       (subst (λ (is : List Item). Leads old.task (opening old.task) is d) (sym b.items) run)
+
   within : length new.history.items ≤ new.task.limit
   within =
       let all : length new.history.items ≡ length old.history.items + length more =
-          ap length b.items ∙ length-append old.history.items more in
+      ap length b.items ∙ length-append old.history.items more in
       let limit : new.task.limit ≡ old.task.limit = ap (λ (t : Task). t.limit) b.task in
       omega (arith, all, limit, at.within, b.fits)
 
@@ -56,7 +56,7 @@ pub room_after : (old new : Scene) (more : List Item) (d : Configuration) → Fo
     room new ≡ room old - length more
 room_after old new more d f =
     let all : length new.history.items ≡ length old.history.items + length more =
-        ap length f.items ∙ length-append old.history.items more in
+    ap length f.items ∙ length-append old.history.items more in
     let limit : new.task.limit ≡ old.task.limit = ap (λ (t : Task). t.limit) f.task in
     omega (arith, all, limit)
 

@@ -64,16 +64,17 @@ none_passes_by (Some m) b what h = refl
 none_passes_by None true what h = cc
 none_passes_by None false what h = refl
 
-none_is : (o : Option ℕ) → is_some o ≡ false → o ≡ None
+pub none_is : {A : Type 0} (o : Option A) → is_some o ≡ false → o ≡ None
 none_is None h = refl
-none_is (Some n) h = cc
+none_is (Some x) h = cc
 
 some_isnt : (o : Option ℕ) → is_some o ≡ true → o ≡ None → ⊥
 some_isnt None h e = cc
 some_isnt (Some n) h e = cc
 
 module _ (s : Scene) (c : Configuration) (at : IsAt s c) where
-  wanting_is : (o : Option ℕ) → o ≡ least_from 0 s.board.posts → o ≡ wanting_from 0 c.processes
+  -- the least process that shows that it wants a silent step is the least that wants one
+  pub wanting_is : (o : Option ℕ) → o ≡ least_from 0 s.board.posts → o ≡ wanting_from 0 c.processes
   wanting_is o e = e ∙ ap (λ (ps : List Post). least_from 0 ps) at.shown ∙ least_shown c.clock 0 c.processes
 
   -- where a process shows that it wants a silent step, no time passes

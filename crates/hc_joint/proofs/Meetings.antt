@@ -1,20 +1,16 @@
 -- One meeting: what is ready on the board, and what comes of it when both are told.
-use Rattle.std.proofs.Common.{◌≡◌, refl, sym, ap, ap₂, subst, ◌∙◌, ℕ, zero, suc, ◌<◌, ◌-◌, Bool, true, false, List, [], ◌∷◌, ◌++◌, map, length, slice_get, slice_set, Option, Some, None, arith}
+use Rattle.std.proofs.Common.{◌≡◌, refl, sym, ap, ap₂, subst, ◌∙◌, ◌<◌, true, List, [], ◌∷◌, ◌++◌, length, Option, Some, arith}
 use Rattle.std.proofs.lemmas.Option.{slice_get_within}
 use Rattle.hc_rational.specs.Words.{Rational}
 use Rattle.hc_term.specs.declared.run.Step.TheVariants.{Comm}
 use Rattle.hc_term.specs.declared.run.Item.{Item}
-use Rattle.hc_term.specs.declared.post.Post.{Post}
-use Rattle.hc_term.specs.declared.model.ProcessState.{ProcessState}
 use Rattle.hc_term.specs.declared.model.Meeting.{Meeting}
 use Rattle.hc_term.specs.declared.model.Configuration.{Configuration}
 use Rattle.hc_term.specs.Moved.{fired}
-use Rattle.hc_term.specs.Offers.{going_post, post}
 use Rattle.hc_term.specs.Posts.{first_meeting}
-use Rattle.hc_term.specs.Step.{posts, ready, met}
+use Rattle.hc_term.specs.Step.{ready, met}
 use Rattle.hc_term.proofs.Ready.{ready-steps}
 use Rattle.hc_runs.specs.Laws.{Joins}
-use Rattle.hc_runs.proofs.Basics.{length-set}
 use Rattle.hc_runs.proofs.Fired.{ready_joins}
 use Rattle.hc_joint.specs.declared.scene.Scene.{Scene}
 use Rattle.hc_joint.specs.States.{AllIn}
@@ -26,16 +22,13 @@ use Rattle.hc_joint.proofs.Following.{becomes-follows}
 pub ready_shown : (s : Scene) (c : Configuration) → IsAt s c → first_meeting s.board.channels s.board.posts ≡ ready s.task c
 ready_shown s c at = ap₂ first_meeting at.channels at.shown
 
--- ---- a channel is ready
-
-pub joins_here : (s : Scene) (c : Configuration) (m : Meeting) → IsAt s c → first_meeting s.board.channels s.board.posts ≡ Some m → Joins m c
+joins_here : (s : Scene) (c : Configuration) (m : Meeting) → IsAt s c → first_meeting s.board.channels s.board.posts ≡ Some m → Joins m c
 joins_here s c m at e = (ready_joins s.task s.history.items c m at.leads (sym (ready_shown s c at) ∙ e)).1
 
--- both that meet have members, and their posts
+-- both that meet have members
 pub record AreThere (m : Meeting) (s : Scene) : Type 0 where
   pub sender : m.sender < length s.members.items
   pub receiver : m.receiver < length s.members.items
-  pub shown : length (fired m s.board.posts) ≡ length s.members.items
 
 pub there_by : (s : Scene) (c : Configuration) (m : Meeting) → IsAt s c → first_meeting s.board.channels s.board.posts ≡ Some m →
     AreThere m s
@@ -46,12 +39,7 @@ there_by s c m at e =
     record {
       sender = omega (arith, one, at.members.counted);
       receiver = omega (arith, two, at.members.counted);
-      shown = length-set (slice_set s.board.posts m.sender going_post) m.receiver going_post
-          ∙ length-set s.board.posts m.sender going_post ∙ ap length at.shown ∙ all_shown c.clock c.processes ∙ sym at.members.counted;
-    } where
-  all_shown : (clock : Rational) (qs : List ProcessState) → length (map (post clock) qs) ≡ length qs
-  all_shown clock [] = refl
-  all_shown clock (q ∷ qs) = ap suc (all_shown clock qs)
+    }
 
 -- the board let them meet, they were told, and the meeting was put behind the history
 pub record HasMet (m : Meeting) (old fire told new : Scene) : Type 0 where
@@ -85,16 +73,16 @@ meets_by m old fire told new h c at =
     let clock : told.clock ≡ c.clock = is.clock ∙ h.fire_clock ∙ at.clock in
     let step : Item = record { at = c.clock; step = Comm m.channel m.value } in
     let follows : Follows old new (step ∷ []) (met m c) =
-        becomes-follows old new (step ∷ []) c (met m c) at (record {
-          task = h.task ∙ is.task ∙ h.fire_task;
-          items = h.items
-              ∙ ap₂ (λ (is : List Item) (k : Rational). is ++ record { at = k; step = Comm m.channel m.value } ∷ [])
-              (ap (λ v. v.items) (is.history ∙ h.fire_history)) clock;
-          run = (refl, (met m c, ready-steps old.task c m found, refl));
-          fits = h.left;
-          members = subst (λ ms. AllIn c.clock ms.items (met m c).processes) (sym h.members) is.members;
-          shown = ap (λ b. b.posts) h.board ∙ is.shown (h.fire_posts ∙ ap (fired m) at.shown);
-          channels = ap (λ b. b.channels) h.board ∙ is.channels ∙ h.fire_channels;
-          clock = h.clock ∙ clock;
-        }) in
+    becomes-follows old new (step ∷ []) c (met m c) at (record {
+      task = h.task ∙ is.task ∙ h.fire_task;
+      items = h.items
+          ∙ ap₂ (λ (is : List Item) (k : Rational). is ++ record { at = k; step = Comm m.channel m.value } ∷ [])
+          (ap (λ v. v.items) (is.history ∙ h.fire_history)) clock;
+      run = (refl, (met m c, ready-steps old.task c m found, refl));
+      fits = h.left;
+      members = subst (λ ms. AllIn c.clock ms.items (met m c).processes) (sym h.members) is.members;
+      shown = ap (λ b. b.posts) h.board ∙ is.shown (h.fire_posts ∙ ap (fired m) at.shown);
+      channels = ap (λ b. b.channels) h.board ∙ is.channels ∙ h.fire_channels;
+      clock = h.clock ∙ clock;
+    }) in
     subst (λ (o : Option Meeting). Meets old new c o true) (sym found) (refl, follows)

@@ -1,7 +1,6 @@
 -- A joint that has done nothing yet, and one that has a turn of its least process.
 use Rattle.std.proofs.Common.{◌≡◌, ◌<◌, ◌≤◌, refl, sym, ap, subst, ◌∙◌, ℕ, ◌+◌, ◌++◌, true, false, List, [], length, Option, Some, None, is_some, arith}
-use Rattle.std.proofs.lemmas.List.{length-map}
-use Rattle.std.proofs.lemmas.Option.{slice_get_within}
+use Rattle.std.proofs.lemmas.Option.{none-some, slice_get_within}
 use Rattle.hc_limits.specs.Limits.{most_processes, most_steps}
 use Rattle.hc_rational.specs.Words.{Rational, zero_ℚ}
 use Rattle.hc_term.specs.declared.task.Task.{Task}
@@ -23,7 +22,7 @@ use Rattle.hc_joint.specs.Seen.{Seen}
 use Rattle.hc_joint.specs.Stands.{IsAt}
 use Rattle.hc_joint.specs.Parts.{room, Comes}
 use Rattle.hc_joint.specs.Keeps.{IsMade, HasTurn, GoesForward, seen, opened}
-use Rattle.hc_joint.proofs.Showing.{least_shown}
+use Rattle.hc_joint.proofs.Halting.{none_is, wanting_is}
 
 -- ---- the opening
 
@@ -41,15 +40,11 @@ module _ (s : Scene) (t : Task) (same : s.task ≡ t) (empty : s.history.items �
 
 -- ---- one more turn
 
-pub none_stands : (o : Option Stop) → is_some o ≡ false → o ≡ None
-none_stands None e = refl
-none_stands (Some stop) e = cc
-
 module _ (s : Scene) (stop : Option Stop) (turns recomputed : ℕ) (m : IsMade s stop turns recomputed)
     (going : false ≡ is_some stop) where
   turns_so_far : Turns s.task turns s.history.items m.reached None
   turns_so_far =
-      subst (λ (o : Option Stop). Turns s.task turns s.history.items m.reached o) (none_stands stop (sym going)) m.turned
+      subst (λ (o : Option Stop). Turns s.task turns s.history.items m.reached o) (none_is stop (sym going)) m.turned
 
   goes_on : GoesOn s.task s.history.items m.reached
   goes_on = turns_go_on s.task turns s.history.items m.reached turns_so_far
@@ -63,15 +58,12 @@ module _ (s : Scene) (stop : Option Stop) (turns recomputed : ℕ) (m : IsMade s
       let short = goes_on.room in
       omega (arith, few.going refl, short, s.task.in_range.1)
 
-  -- the least process that shows that it wants a step is the least that wants one
   shown_least : least_from 0 s.board.posts ≡ wanting_from 0 m.reached.processes
-  shown_least = ap (λ (ps : List Post). least_from 0 ps) m.at.shown ∙ least_shown m.reached.clock 0 m.reached.processes
+  shown_least = wanting_is s m.reached m.at (least_from 0 s.board.posts) refl
 
-  -- and there is one
+  -- some process wants a step, and so one shows it
   pub some_is_least : least_from 0 s.board.posts ≡ None → ⊥
-  some_is_least none = no_none (sym none ∙ shown_least ∙ goes_on.able.1) where
-    no_none : {p : ℕ} → None ≡ Some p → ⊥
-    no_none e = cc
+  some_is_least none = none-some goes_on.able.0 (sym none ∙ shown_least ∙ goes_on.able.1)
 
   module _ (p : ℕ) (shown : least_from 0 s.board.posts ≡ Some p) where
     least : IsLeast p m.reached
@@ -129,6 +121,6 @@ module _ (s : Scene) (stop : Option Stop) (turns recomputed : ℕ) (m : IsMade s
       goes_forward old is =
           let after = seen new.task new.clock new.history.items set (turns + 1) recomputed in
           let before = seen s.task s.clock s.history.items stop turns recomputed in
-          let none = none_stands stop (sym going) in
+          let none = none_is stop (sym going) in
           subst (λ (x : Seen). GoesForward x.stop x after true) is
           (subst (λ (o : Option Stop). GoesForward o before after true) (sym none) (refl, has_turn))

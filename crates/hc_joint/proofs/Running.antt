@@ -1,13 +1,12 @@
 -- What a stretch of one process does to a scene.
-use Rattle.std.proofs.Common.{◌≡◌, ◌<◌, refl, sym, ap, subst, ◌∙◌, ℕ, ◌≤◌, List, ◌++◌, length, slice_get, slice_set, Some, arith}
+use Rattle.std.proofs.Common.{◌≡◌, sym, ap, subst, ◌∙◌, ℕ, ◌≤◌, List, ◌++◌, length, slice_get, slice_set, Some, arith}
 use Rattle.hc_rational.specs.Words.{Rational}
 use Rattle.hc_term.specs.declared.post.Post.{Post}
-use Rattle.hc_term.specs.declared.run.Item.{Item}
 use Rattle.hc_term.specs.declared.model.ProcessState.{ProcessState}
 use Rattle.hc_term.specs.declared.model.Configuration.{Configuration}
 use Rattle.hc_term.specs.Offers.{post}
 use Rattle.hc_term.specs.Step.{posts, replaced}
-use Rattle.hc_term.specs.Event.{Progress, progress, silent_items}
+use Rattle.hc_term.specs.Event.{progress, silent_items}
 use Rattle.hc_term.proofs.EventRuns.{length-silent_items}
 use Rattle.hc_term.proofs.Stretches.{progress-stretches}
 use Rattle.hc_step.specs.declared.stretch.Stretch.{Stretch}
@@ -57,7 +56,7 @@ runs_by old new p most st m after shown h c q at here =
     let g = progress most old.task.seed p c.clock q in
     let is : IsIn p old.clock m q = subst (λ (k : Rational). IsIn p k m q) (sym at.clock) (at.members.each p m q h.there here) in
     let done : Progresses p c.clock st after g =
-        subst (λ (k : Rational). Progresses p k st after (progress most old.task.seed p k q)) at.clock (h.takes p q is) in
+    subst (λ (k : Rational). Progresses p k st after (progress most old.task.seed p k q)) at.clock (h.takes p q is) in
     let before = old.history.items in
     let stretches = progress-stretches old.task p most c q here in
     record {

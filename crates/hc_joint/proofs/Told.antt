@@ -1,5 +1,5 @@
 -- Two members that were told of their meeting.
-use Rattle.std.proofs.Common.{◌≡◌, ◌≢◌, refl, sym, ap, subst, ◌∙◌, ℕ, List, slice_get, slice_set, Some, None, true}
+use Rattle.std.proofs.Common.{◌≡◌, ◌≢◌, sym, ap, subst, ◌∙◌, ℕ, List, slice_get, slice_set, Some, None, true}
 use Rattle.hc_rational.specs.Words.{Rational}
 use Rattle.hc_term.specs.declared.post.Post.{Post}
 use Rattle.hc_term.specs.declared.model.ProcessState.{ProcessState}
@@ -87,5 +87,5 @@ told_by m old new one sender two receiver sending receiving h c all j =
           (h.receiver_shows m.receiver c.clock (receive j.receiver) took)
           ∙ sym (posts_meet c m j.sender j.receiver j.differ j.sender_is j.receiver_is);
     } where
-  sends_none : sent_on m.channel (post c.clock j.sender).offers ≡ None → ⊥
-  sends_none e = let some = j.sends in cc
+      sends_none : sent_on m.channel (post c.clock j.sender).offers ≡ None → ⊥
+      sends_none e = let some = j.sends in cc

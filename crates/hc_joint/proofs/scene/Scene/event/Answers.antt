@@ -6,8 +6,10 @@ use Rattle.hc_joint.proofs.scene.Scene.event.Goals as goal
 
 pub go_on-requires : goal.go_on-requires
 go_on-requires c =
-    record { at = somewhere_after c.args.self.now c.run_process-end.new.self c.args.process c.min.result c.run_process-end.result
-        c.requires.there c.run_process-end.ensures c.requires.at }
+    record {
+      at = somewhere_after c.args.self.now c.run_process-end.new.self c.args.process c.min.result c.run_process-end.result
+          c.requires.there c.run_process-end.ensures c.requires.at;
+    }
 
 pub returns : goal.returns
 returns c before at =

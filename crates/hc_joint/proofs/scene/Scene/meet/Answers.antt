@@ -15,7 +15,7 @@ pub push_reserved-requires : goal.push_reserved-requires
 push_reserved-requires c =
     let s = c.args.self.now in
     let told = told_here c.in-Some.meeting s _ c.tell.new.self c.requires.at.0 c.requires.at.1 (sym c.fire.ensures.met ∙ c.in-Some.is) refl
-        c.tell.ensures in
+    c.tell.ensures in
     let counted : vec_len s.history ≡ length s.history.items = search rules in
     let left : vec_len s.history < vec_capacity s.history = omega (arith, counted, c.requires.left, s.room) in
     subst (λ h. vec_len h < vec_capacity h) (sym told.history) left

@@ -1,4 +1,4 @@
-use Rattle.std.proofs.Common.{rules, ◌≡◌, ◌<◌, ◌≤◌, ◌+◌, sym, ap, subst, ◌∙◌, Bool, true, false, length, vec_len, arith}
+use Rattle.std.proofs.Common.{rules, ◌≡◌, ◌<◌, ◌+◌, ap, subst, ◌∙◌, Bool, true, false, length, vec_len, arith}
 use Rattle.hc_term.specs.declared.model.Configuration.{Configuration}
 use Rattle.hc_term.specs.Step.{ready}
 use Rattle.hc_joint.specs.Stands.{IsAt}

@@ -9,7 +9,7 @@ append-requires-clause-counted c =
     let s = c.args.self.now in
     let m = c.index_mut-member.result.now in
     let there : slice_get s.members.items c.args.process ≡ Some m =
-        slice_get_read s.members.items (length s.members.items) c.args.process m refl c.requires.there c.index_mut-member.ensures.value in
+    slice_get_read s.members.items (length s.members.items) c.args.process m refl c.requires.there c.index_mut-member.ensures.value in
     counted_by s c.requires.at.0 c.args.process c.args.most s.task.seed m c.stretch-stretch.new.self c.stretch-stretch.result
     c.requires.at.1 there c.stretch-stretch.ensures.takes
 
