@@ -1,18 +1,11 @@
 //! Runs of a system, turn by turn.
 
-use crate::showing::{put_item, put_word};
+use crate::showing::{put_item, put_number, put_word};
 use hc_frac::Frac;
 use hc_joint::Joint;
 use hc_limits::{DEFAULT_HORIZON, MOST_STEPS};
 use hc_term::{Item, Step, Stop, System, Task};
-use itoa::Buffer;
 use std::alloc::{AllocError, Global};
-
-/// Puts a count behind the last word.
-fn put_count(text: &mut String, count: u64) -> Result<(), AllocError> {
-    let mut buffer = Buffer::new();
-    put_word(text, buffer.format(count))
-}
 
 /// A step with the clock before it.
 fn put_step(text: &mut String, item: &Item) -> Result<(), AllocError> {
@@ -20,7 +13,7 @@ fn put_step(text: &mut String, item: &Item) -> Result<(), AllocError> {
     match &item.step {
         Step::Silent { process, logged } => {
             put_word(text, "silent")?;
-            put_count(text, u64::from(*process))?;
+            put_number(text, u64::from(*process))?;
             if let Some(value) = logged {
                 put_word(text, "log")?;
                 put_word(text, value.text().as_str())?;
@@ -29,7 +22,7 @@ fn put_step(text: &mut String, item: &Item) -> Result<(), AllocError> {
         }
         Step::Comm { channel, value } => {
             put_word(text, "comm")?;
-            put_count(text, u64::from(*channel))?;
+            put_number(text, u64::from(*channel))?;
             put_word(text, value.text().as_str())
         }
         Step::Delay { by } => {
@@ -39,22 +32,19 @@ fn put_step(text: &mut String, item: &Item) -> Result<(), AllocError> {
     }
 }
 
-/// The stop, where there is one.
-fn put_stop(text: &mut String, stop: Option<Stop>) -> Result<(), AllocError> {
+/// How a run stopped.
+fn put_stop(text: &mut String, stop: Stop) -> Result<(), AllocError> {
     match stop {
-        None => put_item(text, "going"),
-        Some(Stop::Terminated) => put_item(text, "terminated"),
-        Some(Stop::Deadlock) => put_item(text, "deadlock"),
-        Some(Stop::Horizon) => put_item(text, "horizon"),
-        Some(Stop::Limit) => put_item(text, "limit"),
-        Some(Stop::Overflow { process: None }) => put_item(text, "overflow *"),
-        Some(
-            Stop::Overflow {
-                process: Some(process),
-            },
-        ) => {
+        Stop::Terminated => put_item(text, "terminated"),
+        Stop::Deadlock => put_item(text, "deadlock"),
+        Stop::Horizon => put_item(text, "horizon"),
+        Stop::Limit => put_item(text, "limit"),
+        Stop::Overflow { process: None } => put_item(text, "overflow *"),
+        Stop::Overflow {
+            process: Some(process),
+        } => {
             put_item(text, "overflow")?;
-            put_count(text, u64::from(process))
+            put_number(text, u64::from(process))
         }
     }
 }
@@ -64,15 +54,18 @@ fn put_run(text: &mut String, joint: &Joint, is_counted: bool) -> Result<(), All
     let history = joint.history();
     if is_counted {
         put_item(text, "steps")?;
-        put_count(text, history.len() as u64)?;
+        put_number(text, history.len() as u64)?;
     } else {
         for item in history {
             put_step(text, item)?;
         }
     }
-    put_stop(text, joint.stop())?;
+    match joint.stop() {
+        Some(stop) => put_stop(text, stop)?,
+        None => put_item(text, "going")?,
+    }
     put_item(text, "turns")?;
-    put_count(text, joint.turns())
+    put_number(text, joint.turns())
 }
 
 /// The task of simulating a copy of the system, where its numbers are in range.

@@ -20,7 +20,7 @@ pub(crate) fn put_word(text: &mut String, word: &str) -> Result<(), AllocError> 
 }
 
 /// Puts the number behind the last word.
-fn put_number(text: &mut String, number: u32) -> Result<(), AllocError> {
+pub(crate) fn put_number(text: &mut String, number: u64) -> Result<(), AllocError> {
     let mut buffer = Buffer::new();
     put_word(text, buffer.format(number))
 }
@@ -38,7 +38,7 @@ pub(crate) fn put_stretch(text: &mut String, stretch: &Stretch) -> Result<(), Al
         StretchEnd::Spent => put_item(text, "spent")?,
     }
     put_word(text, "by")?;
-    put_number(text, stretch.steps)
+    put_number(text, u64::from(stretch.steps))
 }
 
 /// A communication that is offered.
@@ -46,7 +46,7 @@ fn put_offer(text: &mut String, offer: &Offer) -> Result<(), AllocError> {
     match offer {
         Offer::Send { channel, at, slope } => {
             put_item(text, "sends")?;
-            put_number(text, *channel)?;
+            put_number(text, u64::from(*channel))?;
             put_word(text, at.text().as_str())?;
             if slope.is_zero() {
                 return Ok(());
@@ -56,7 +56,7 @@ fn put_offer(text: &mut String, offer: &Offer) -> Result<(), AllocError> {
         }
         Offer::Receive { channel } => {
             put_item(text, "receives")?;
-            put_number(text, *channel)
+            put_number(text, u64::from(*channel))
         }
     }
 }
@@ -73,7 +73,7 @@ pub(crate) fn put_post(text: &mut String, post: &Post) -> Result<(), AllocError>
     }
     for moving in post.moving.as_slice() {
         put_item(text, "moves")?;
-        put_number(text, moving.variable)?;
+        put_number(text, u64::from(moving.variable))?;
         put_word(text, moving.at.text().as_str())?;
         put_word(text, moving.rate.text().as_str())?;
     }
