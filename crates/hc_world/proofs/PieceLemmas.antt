@@ -23,7 +23,7 @@ adds_then_flushes (Some x) (Some y) (Some z) xs adds flushes =
     (flushes.0 ∙ adds.0, λ some. flushes.1 ∙ sym (ap length flushes.0))
 
 -- some bytes stand, and then more
-begun_more : {K : Type 0} {state : K → SinkState} {a b c : K}
+pub begun_more : {K : Type 0} {state : K → SinkState} {a b c : K}
     {xs ys : List ℕ}
     → IsBegun state a b xs → IsBegun state b c ys → IsBegun state a c (xs ++ ys)
 begun_more {state} {a} {b} {c} {xs} {ys} first next = record {
