@@ -1,20 +1,30 @@
-//! Answers rows of questions to the core, one a line: the end moment of a domain, and copies.
+//! Answers rows of questions to the core, one a line: the silent steps of a process, the run of a system, the end moment
+//! of a domain, and copies.
 #![tactic(auto)]
 
 mod accepting;
+mod acts;
 mod copying;
 mod ending;
+mod runner;
+mod running;
+mod showing;
+mod stepping;
 
 use accepting::system_of;
 use copying::copies_of;
 use ending::{end_of, end_of_many};
 use hc_term::System;
+use running::run_of;
 use std::alloc::{AllocError, Global};
 use std::io;
+use stepping::steps_of;
 
 /// The answer to a question about a system.
 fn answer_about(alloc: Global, question: &str, system: &System) -> Result<String, AllocError> {
     match question.split_once(' ') {
+        Some(("steps", words)) => steps_of(alloc, words, system),
+        Some(("run", words)) => run_of(alloc, words, system),
         Some(("end", _)) => end_of(alloc, system),
         Some(("many", count)) => end_of_many(alloc, count),
         Some(("copy", _)) => copies_of(alloc, system),

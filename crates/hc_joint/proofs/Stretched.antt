@@ -1,0 +1,59 @@
+-- The items of a stretch.
+use Rattle.std.proofs.Common.{◌≡◌, refl, sym, ap, ◌∙◌, ℕ, zero, suc, ◌+◌, List, [], ◌∷◌, ◌++◌, map, replicate, slice_get, slice_set, Option, Some, None, add-one}
+use Rattle.std.proofs.lemmas.List.{append_assoc}
+use Rattle.hc_rational.specs.Words.{Rational}
+use Rattle.hc_term.specs.declared.run.Step.TheVariants.{Silent}
+use Rattle.hc_term.specs.declared.run.Item.{Item}
+use Rattle.hc_term.specs.declared.task.Task.{Task}
+use Rattle.hc_term.specs.declared.post.Post.{Post}
+use Rattle.hc_term.specs.declared.model.ProcessState.{ProcessState}
+use Rattle.hc_term.specs.declared.model.Configuration.{Configuration}
+use Rattle.hc_term.specs.Offers.{post}
+use Rattle.hc_term.specs.Step.{opening, posts, replaced, Leads}
+use Rattle.hc_term.specs.Event.{progress, silent_items}
+use Rattle.hc_term.proofs.Pieces.{leads_on}
+use Rattle.hc_term.proofs.Stretches.{progress-stretches}
+
+module _ (clock : Rational) (p : ℕ) where
+  -- one step more
+  pub silent_items-push : (ls : List (Option Rational)) (l : Option Rational) →
+      silent_items clock p (ls ++ l ∷ []) ≡ silent_items clock p ls ++ record { at = clock; step = Silent p l } ∷ []
+  silent_items-push [] l = refl
+  silent_items-push (k ∷ ls) l = ap (λ (is : List Item). record { at = clock; step = Silent p k } ∷ is) (silent_items-push ls l)
+
+pub replicate-push : {A : Type 0} (n : ℕ) (x : A) → replicate (suc n) x ≡ replicate n x ++ x ∷ []
+replicate-push zero x = refl
+replicate-push (suc n) x = ap (λ l. x ∷ l) (replicate-push n x)
+
+module _ (clock : Rational) (p : ℕ) (before now new : List Item) (l : Option Rational) where
+  -- one item more behind the steps so far
+  pub items-push : (ls : List (Option Rational)) → now ≡ before ++ silent_items clock p ls →
+      new ≡ now ++ record { at = clock; step = Silent p l } ∷ [] → new ≡ before ++ silent_items clock p (ls ++ l ∷ [])
+  items-push ls h e =
+      e ∙ ap (λ (is : List Item). is ++ record { at = clock; step = Silent p l } ∷ []) h
+      ∙ append_assoc before (silent_items clock p ls) (record { at = clock; step = Silent p l } ∷ [])
+      ∙ ap (λ (is : List Item). before ++ is) (sym (silent_items-push clock p ls l))
+
+abbrev nothing : Option Rational
+nothing = None
+
+pub quiet-push : (clock : Rational) (p : ℕ) (before now new : List Item) (n : ℕ) →
+    now ≡ before ++ silent_items clock p (replicate n None) → new ≡ now ++ record { at = clock; step = Silent p None } ∷ [] →
+    new ≡ before ++ silent_items clock p (replicate (n + 1) None)
+quiet-push clock p before now new n h e =
+    let one : replicate (n + 1) nothing ≡ replicate n nothing ++ nothing ∷ [] =
+        ap (λ (k : ℕ). replicate k nothing) (add-one n) ∙ replicate-push n nothing in
+    items-push clock p before now new nothing (replicate n nothing) h e
+    ∙ ap (λ (ls : List (Option Rational)). before ++ silent_items clock p ls) (sym one)
+
+-- ---- what is shown after a stretch
+
+set_shown : (clock : Rational) (qs : List ProcessState) (p : ℕ) (q : ProcessState) →
+    map (post clock) (slice_set qs p q) ≡ slice_set (map (post clock) qs) p (post clock q)
+set_shown clock [] p q = refl
+set_shown clock (r ∷ qs) zero q = refl
+set_shown clock (r ∷ qs) (suc p) q = ap (λ (l : List Post). post clock r ∷ l) (set_shown clock qs p q)
+
+pub replaced_shown : (c : Configuration) (p : ℕ) (q : ProcessState) →
+    posts (replaced c p q) ≡ slice_set (posts c) p (post c.clock q)
+replaced_shown c p q = set_shown c.clock c.processes p q

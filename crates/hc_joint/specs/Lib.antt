@@ -1,0 +1,6 @@
+pub mod Seen
+pub mod Able
+pub mod States
+pub mod Stands
+pub mod Parts
+pub mod Keeps

@@ -1,0 +1,12 @@
+//! The joint state of all processes of a task: what runs, on what it rests, and the history of the run.
+#![tactic(auto)]
+
+mod delay;
+mod event;
+mod joint;
+mod member;
+mod members;
+mod scene;
+mod shown;
+
+pub use joint::Joint;
