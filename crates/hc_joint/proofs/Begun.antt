@@ -14,7 +14,7 @@ use Rattle.hc_term.specs.declared.model.ProcessState.{ProcessState}
 use Rattle.hc_term.specs.Value.{Store}
 use Rattle.hc_term.specs.Rules.{is_stmt, is_process}
 use Rattle.hc_term.specs.Offers.{going_post, post}
-use Rattle.hc_term.specs.Step.{opening_of, opening, posts, Leads}
+use Rattle.hc_term.specs.Step.{opening_of, opening, Leads}
 use Rattle.hc_runs.proofs.Parts.{all_processes}
 use Rattle.hc_joint.specs.declared.member.Member.{Member}
 use Rattle.hc_joint.specs.declared.scene.Scene.{Scene}

@@ -7,7 +7,7 @@ use Rattle.hc_term.specs.Offers.{post}
 use Rattle.hc_runs.proofs.Basics.{length-set}
 use Rattle.hc_joint.specs.declared.member.Member.{Member}
 use Rattle.hc_joint.specs.States.{IsIn, AllIn}
-use Rattle.hc_joint.proofs.Places.{is_set, beside}
+use Rattle.hc_joint.proofs.Places.{is_set}
 
 -- one member changes with its process
 pub all_but_one : (clock : Rational) (ms : List Member) (qs : List ProcessState) (p : ℕ) (m : Member) (q : ProcessState) →

@@ -1,7 +1,5 @@
 -- A joint on its way to a stop by turns of the least process, each of which goes on as the canonical steps do.
-use Rattle.std.proofs.Common.{◌≡◌, ◌<◌, refl, sym, ap, subst, ◌∙◌, ℕ, zero, suc, ◌+◌, ◌-◌, ◌++◌, Bool, List, length, Option, Some, None, arith}
-use Rattle.hc_term.specs.declared.task.Task.{Task}
-use Rattle.hc_term.specs.declared.run.Item.{Item}
+use Rattle.std.proofs.Common.{◌≡◌, ◌<◌, refl, sym, ap, subst, ◌∙◌, ℕ, suc, ◌+◌, ◌-◌, ◌++◌, Bool, length, Option, Some, None, arith}
 use Rattle.hc_term.specs.declared.run.Stop.{Stop}
 use Rattle.hc_term.specs.declared.model.Configuration.{Configuration}
 use Rattle.hc_term.specs.Step.{opening, Leads}
@@ -13,7 +11,7 @@ use Rattle.hc_runs.proofs.Turning.{least_wants, turns_are_run}
 use Rattle.hc_runs.proofs.Visible.{turns_end}
 use Rattle.hc_runs.proofs.LeastTurns.{least_turn_advances}
 use Rattle.hc_joint.specs.Seen.{Seen}
-use Rattle.hc_joint.specs.Keeps.{Keeps, IsReached, HasTurn, GoesForward, HasCourse, IsFinished, turned}
+use Rattle.hc_joint.specs.Keeps.{Keeps, IsReached, HasTurn, GoesForward, HasCourse, turned}
 
 -- with this stop now, the canonical steps from c have led here, and go on from here where there is none
 abbrev pub LeadsOn : Option Stop → Seen → Seen → Configuration → Type 0

@@ -1,11 +1,9 @@
 -- What a joint keeps, from what its parts stand for.
-use Rattle.std.proofs.Common.{◌≡◌, refl, sym, ap, subst, ◌∙◌, ℕ, Bool, List, slice_get, Option, Some, None}
+use Rattle.std.proofs.Common.{◌≡◌, sym, ap, subst, ◌∙◌, ℕ, List, slice_get, Option}
 use Rattle.hc_term.specs.declared.post.Post.{Post}
 use Rattle.hc_term.specs.declared.run.Stop.{Stop}
 use Rattle.hc_term.specs.declared.model.Configuration.{Configuration}
-use Rattle.hc_term.specs.Stop.{IsBehaviour}
 use Rattle.hc_runs.specs.Turns.{Turns}
-use Rattle.hc_runs.specs.Laws.{GoesOn}
 use Rattle.hc_runs.proofs.Turning.{turns_stop, turns_go_on}
 use Rattle.hc_joint.specs.declared.scene.Scene.{Scene}
 use Rattle.hc_joint.specs.Able.{is_able, shows_step_if}

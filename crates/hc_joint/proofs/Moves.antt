@@ -1,5 +1,5 @@
 -- Members that are moved one after another, each with its process.
-use Rattle.std.proofs.Common.{◌≡◌, ◌<◌, ◌≤◌, refl, sym, ap, subst, ◌∙◌, ℕ, ◌+◌, true, false, not, List, map, length, slice_get, Option, Some, None, IfSome, ◌⊎◌, inl, inr, arith, rules}
+use Rattle.std.proofs.Common.{◌≡◌, ◌<◌, ◌≤◌, refl, sym, ap, subst, ◌∙◌, ℕ, ◌+◌, true, not, List, map, length, slice_get, Option, Some, None, IfSome, ◌⊎◌, inl, inr, arith, rules}
 use Rattle.std.proofs.Math.ListN.{get_or, set}
 use Rattle.std.proofs.lemmas.Bool.{false≢true, cases_lt}
 use Rattle.std.proofs.lemmas.List.{length-set, length-map, get_or-set_same, get_or-set_other}

@@ -1,17 +1,14 @@
 -- A joint that has done nothing yet, and one that has a turn of its least process.
-use Rattle.std.proofs.Common.{◌≡◌, ◌<◌, ◌≤◌, refl, sym, ap, subst, ◌∙◌, ℕ, ◌+◌, ◌++◌, true, false, List, [], length, Option, Some, None, is_some, arith}
+use Rattle.std.proofs.Common.{◌≡◌, ◌<◌, refl, sym, ap, subst, ◌∙◌, ℕ, ◌+◌, ◌++◌, true, false, List, [], length, Option, Some, None, is_some, arith}
 use Rattle.std.proofs.lemmas.Option.{none-some, slice_get_within}
-use Rattle.hc_limits.specs.Limits.{most_processes, most_steps}
-use Rattle.hc_rational.specs.Words.{Rational, zero_ℚ}
+use Rattle.hc_limits.specs.Limits.{most_steps}
+use Rattle.hc_rational.specs.Words.{Rational}
 use Rattle.hc_term.specs.declared.task.Task.{Task}
-use Rattle.hc_term.specs.declared.post.Post.{Post}
 use Rattle.hc_term.specs.declared.run.Item.{Item}
 use Rattle.hc_term.specs.declared.run.Stop.{Stop}
 use Rattle.hc_term.specs.declared.model.Configuration.{Configuration}
-use Rattle.hc_term.specs.Offers.{post}
-use Rattle.hc_term.specs.Step.{opening, posts}
+use Rattle.hc_term.specs.Step.{opening}
 use Rattle.hc_term.specs.Canonical.{wanting_from}
-use Rattle.hc_term.specs.Event.{Event}
 use Rattle.hc_runs.specs.Turns.{IsLeast, event_behind, no_turn, one_more, Turns}
 use Rattle.hc_runs.specs.Laws.{GoesOn}
 use Rattle.hc_runs.proofs.Turning.{least_wants, turns_go_on}
@@ -21,7 +18,7 @@ use Rattle.hc_joint.specs.Able.{least_from}
 use Rattle.hc_joint.specs.Seen.{Seen}
 use Rattle.hc_joint.specs.Stands.{IsAt}
 use Rattle.hc_joint.specs.Parts.{room, Comes}
-use Rattle.hc_joint.specs.Keeps.{IsMade, HasTurn, GoesForward, seen, opened}
+use Rattle.hc_joint.specs.Keeps.{IsMade, HasTurn, GoesForward, seen}
 use Rattle.hc_joint.proofs.Halting.{none_is, wanting_is}
 
 -- ---- the opening
@@ -84,11 +81,11 @@ module _ (s : Scene) (stop : Option Stop) (turns recomputed : ℕ) (m : IsMade s
           let came = comes m.reached m.at in
           let f = came.follows in
           let more : Turns s.task (turns + 1) (items ++ e.items) e.end e.stop =
-              one_more turns items m.reached p turns_so_far (least_wants m.reached p least) in
+          one_more turns items m.reached p turns_so_far (least_wants m.reached p least) in
           let stopped : Turns s.task (turns + 1) (items ++ e.items) e.end set =
-              subst (λ (o : Option Stop). Turns s.task (turns + 1) (items ++ e.items) e.end o) (sym came.stop) more in
+          subst (λ (o : Option Stop). Turns s.task (turns + 1) (items ++ e.items) e.end o) (sym came.stop) more in
           let behind : Turns s.task (turns + 1) new.history.items e.end set =
-              subst (λ (is : List Item). Turns s.task (turns + 1) is e.end set) (sym f.items) stopped in
+          subst (λ (is : List Item). Turns s.task (turns + 1) is e.end set) (sym f.items) stopped in
           record {
             reached = e.end;
             at = f.at;

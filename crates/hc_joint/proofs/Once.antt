@@ -1,5 +1,5 @@
 -- The items of a run lead to one configuration.
-use Rattle.std.proofs.Common.{◌≡◌, refl, sym, ap, subst, ◌∙◌, ℕ, ◌<◌, List, [], ◌∷◌, ◌++◌, length, Option, Some}
+use Rattle.std.proofs.Common.{◌≡◌, refl, sym, ap, subst, ◌∙◌, ℕ, ◌<◌, List, [], ◌∷◌, ◌++◌, length, Option}
 use Rattle.hc_rational.specs.Words.{Rational}
 use Rattle.hc_term.specs.declared.task.Task.{Task}
 use Rattle.hc_term.specs.declared.run.Step.{Step}
@@ -8,9 +8,8 @@ use Rattle.hc_term.specs.declared.run.Item.{Item}
 use Rattle.hc_term.specs.declared.model.ProcessState.{ProcessState}
 use Rattle.hc_term.specs.declared.model.Meeting.{Meeting}
 use Rattle.hc_term.specs.declared.model.Configuration.{Configuration}
-use Rattle.hc_term.specs.Silent.{Outcome, Did}
-use Rattle.hc_term.specs.Posts.{Passing, Took}
-use Rattle.hc_term.specs.Step.{opening, silent_of, passing, replaced, met, delayed, StepTo, Leads}
+use Rattle.hc_term.specs.Silent.{Did}
+use Rattle.hc_term.specs.Step.{opening, replaced, met, StepTo, Leads}
 use Rattle.hc_term.proofs.Pieces.{leads_on}
 use Rattle.hc_term.proofs.Reached.{meetings_are_unique}
 

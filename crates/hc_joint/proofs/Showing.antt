@@ -1,5 +1,5 @@
 -- Who wants a silent step, and who has ended, stands in what all processes show.
-use Rattle.std.proofs.Common.{◌≡◌, refl, ap, ap₂, ◌∙◌, ℕ, zero, suc, ◌+◌, Bool, true, ◌&&◌, if◌then◌else◌, List, [], ◌∷◌, map, slice_get, Option, Some, None}
+use Rattle.std.proofs.Common.{◌≡◌, refl, ap, ap₂, ◌∙◌, ℕ, zero, suc, ◌+◌, Bool, ◌&&◌, if◌then◌else◌, List, [], ◌∷◌, map, slice_get, Option, Some}
 use Rattle.std.specs.List.{list_all}
 use Rattle.hc_rational.specs.Words.{Rational}
 use Rattle.hc_term.specs.declared.post.Post.{Post}
@@ -10,7 +10,6 @@ use Rattle.hc_term.specs.declared.model.ProcessState.{ProcessState}
 use Rattle.hc_term.specs.Value.{Store}
 use Rattle.hc_term.specs.Process.{is_done, wants_at, wants, bound}
 use Rattle.hc_term.specs.Offers.{post_at, post}
-use Rattle.hc_term.specs.declared.run.Stop.{Stop}
 use Rattle.hc_term.specs.declared.run.Stop.TheVariants.{Terminated, Deadlock}
 use Rattle.hc_term.specs.declared.model.Configuration.{Configuration}
 use Rattle.hc_term.specs.Step.{posts}

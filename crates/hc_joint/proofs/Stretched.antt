@@ -1,18 +1,15 @@
 -- The items of a stretch.
-use Rattle.std.proofs.Common.{◌≡◌, refl, sym, ap, ◌∙◌, ℕ, zero, suc, ◌+◌, List, [], ◌∷◌, ◌++◌, map, replicate, slice_get, slice_set, Option, Some, None, add-one}
+use Rattle.std.proofs.Common.{◌≡◌, refl, sym, ap, ◌∙◌, ℕ, zero, suc, ◌+◌, List, [], ◌∷◌, ◌++◌, map, replicate, slice_set, Option, None, add-one}
 use Rattle.std.proofs.lemmas.List.{append_assoc}
 use Rattle.hc_rational.specs.Words.{Rational}
 use Rattle.hc_term.specs.declared.run.Step.TheVariants.{Silent}
 use Rattle.hc_term.specs.declared.run.Item.{Item}
-use Rattle.hc_term.specs.declared.task.Task.{Task}
 use Rattle.hc_term.specs.declared.post.Post.{Post}
 use Rattle.hc_term.specs.declared.model.ProcessState.{ProcessState}
 use Rattle.hc_term.specs.declared.model.Configuration.{Configuration}
 use Rattle.hc_term.specs.Offers.{post}
-use Rattle.hc_term.specs.Step.{opening, posts, replaced, Leads}
-use Rattle.hc_term.specs.Event.{progress, silent_items}
-use Rattle.hc_term.proofs.Pieces.{leads_on}
-use Rattle.hc_term.proofs.Stretches.{progress-stretches}
+use Rattle.hc_term.specs.Step.{posts, replaced}
+use Rattle.hc_term.specs.Event.{silent_items}
 
 module _ (clock : Rational) (p : ℕ) where
   -- one step more
@@ -42,7 +39,7 @@ pub quiet-push : (clock : Rational) (p : ℕ) (before now new : List Item) (n : 
     new ≡ before ++ silent_items clock p (replicate (n + 1) None)
 quiet-push clock p before now new n h e =
     let one : replicate (n + 1) nothing ≡ replicate n nothing ++ nothing ∷ [] =
-        ap (λ (k : ℕ). replicate k nothing) (add-one n) ∙ replicate-push n nothing in
+    ap (λ (k : ℕ). replicate k nothing) (add-one n) ∙ replicate-push n nothing in
     items-push clock p before now new nothing (replicate n nothing) h e
     ∙ ap (λ (ls : List (Option Rational)). before ++ silent_items clock p ls) (sym one)
 

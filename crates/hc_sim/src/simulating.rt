@@ -17,9 +17,11 @@ fn tell_turn<O: Sink>(joint: &mut Joint, out: &mut O) -> Result<bool, Failed>
     ensures { TellsTurn O.state out.old out.new joint.old joint.new result }
 {
     let told = joint.history().len();
-    let went = joint.forward();
+    if !joint.forward() {
+        return Ok(false);
+    }
     put_lines(&joint.task().system, &joint.history()[told..], out)?;
-    Ok(went)
+    Ok(true)
 }
 
 /// Runs an opened joint to its stop, by turns of the least process that wants a step. It writes the header, then each

@@ -1,4 +1,4 @@
-use Rattle.std.proofs.Common.{◌∙◌, ◌+◌, arith}
+use Rattle.std.proofs.Common.{◌∙◌, arith}
 use Rattle.hc_joint.proofs.Stretched.{quiet-push}
 use Rattle.hc_joint.proofs.event.push_quiet.Goals as goal
 

@@ -1,6 +1,5 @@
 use Rattle.std.proofs.Common.{◌∙◌, sym, ap, subst, List, slice_get}
 use Rattle.hc_term.specs.declared.post.Post.{Post}
-use Rattle.hc_term.specs.declared.model.Configuration.{Configuration}
 use Rattle.hc_joint.specs.Able.{shows_step_if}
 use Rattle.hc_joint.specs.Seen.{Seen}
 use Rattle.hc_joint.specs.Keeps.{IsReached}

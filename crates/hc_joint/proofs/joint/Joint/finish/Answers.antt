@@ -1,7 +1,6 @@
-use Rattle.std.proofs.Common.{◌∙◌, sym, ap, subst, refl, Option}
-use Rattle.hc_term.specs.declared.run.Stop.{Stop}
+use Rattle.std.proofs.Common.{◌∙◌, sym, ap, subst, refl}
 use Rattle.hc_joint.specs.Seen.{Seen}
-use Rattle.hc_joint.specs.Keeps.{Keeps, GoesForward}
+use Rattle.hc_joint.specs.Keeps.{Keeps}
 use Rattle.hc_joint.proofs.Kept.{made_keeps}
 use Rattle.hc_joint.proofs.Halting.{none_is}
 use Rattle.hc_joint.proofs.Finishing.{begun, turn_goes_on, turn_falls, turn_keeps_task, turn_keeps_recomputed, had_turn}

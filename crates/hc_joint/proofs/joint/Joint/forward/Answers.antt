@@ -1,5 +1,4 @@
-use Rattle.std.proofs.Common.{◌≡◌, ◌∙◌, sym, ap, ℕ, List, Option, Some, arith}
-use Rattle.hc_limits.specs.Limits.{most_steps}
+use Rattle.std.proofs.Common.{◌≡◌, ◌∙◌, sym, ap, ℕ, List, Option, arith}
 use Rattle.hc_term.specs.declared.post.Post.{Post}
 use Rattle.hc_joint.specs.Able.{least_from}
 use Rattle.hc_joint.proofs.NextTurn.{has_room, turns_fit, some_is_least, least_there, made_turn, goes_forward}

@@ -1,5 +1,3 @@
-use Rattle.std.proofs.Common.{subst}
-use Rattle.hc_term.specs.declared.task.Task.{Task}
 use Rattle.hc_joint.proofs.NextTurn.{made_open}
 use Rattle.hc_joint.proofs.joint.Joint.open.Goals as goal
 

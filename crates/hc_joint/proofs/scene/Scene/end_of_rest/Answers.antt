@@ -1,5 +1,4 @@
 use Rattle.std.proofs.Common.{◌∙◌, sym, ap, Bool, if◌then◌else◌}
-use Rattle.hc_term.specs.declared.run.Stop.{Stop}
 use Rattle.hc_term.specs.declared.run.Stop.TheVariants.{Terminated, Deadlock}
 use Rattle.hc_joint.proofs.Showing.{end_shown}
 use Rattle.hc_joint.proofs.scene.Scene.end_of_rest.Goals as goal
