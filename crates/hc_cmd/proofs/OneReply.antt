@@ -25,7 +25,6 @@ use Rattle.hc_term.specs.declared.task.Task.{Task}
 use Rattle.hc_term.specs.Canonical.{canonical}
 use Rattle.hc_term.specs.Given.{HasParts}
 use Rattle.hc_term.specs.Laws.{CanonicalIsBehaviour}
-use Rattle.hc_plain.specs.Plain.{is_plain_system}
 use Rattle.hc_words.specs.declared.requests.Request.{Request}
 use Rattle.hc_words.specs.declared.requests.Request.TheVariants.{Check, Print, Simulate}
 use Rattle.hc_words.specs.declared.settings.Settings.{Settings}
@@ -33,7 +32,7 @@ use Rattle.hc_words.proofs.OneRequest.{one_request}
 use Rattle.hc_cmd.specs.declared.refusal.Refusal.TheVariants.{Unexpanded, Unchecked}
 use Rattle.hc_cmd.specs.Reply.{Reply}
 use Rattle.hc_cmd.specs.Refusals.{refused, refused_at}
-use Rattle.hc_cmd.specs.Answers.{OfText, no_source, source, OfTree, unexpanded, unchecked, accepted, OfSource, Simulates, plain, not_plain, Answers, answering, simulated, done, size_of}
+use Rattle.hc_cmd.specs.Answers.{OfText, no_source, source, OfTree, unexpanded, unchecked, accepted, OfSource, Simulates, Answers, answering, simulated, done, size_of}
 use Rattle.hc_cmd.specs.Laws.{TellsBehaviour}
 use Rattle.hc_cmd.proofs.Calling.{IsWell}
 use Rattle.hc_cmd.proofs.Statuses.{is_answer}
@@ -71,11 +70,8 @@ one_task system seed horizon limit t u is of =
 
 -- a system with its settings gives one reply
 one_simulation : (settings : Settings) (system : System) (r s : Reply) → Simulates settings system r → Simulates settings system s → r ≡ s
-one_simulation settings system r s (plain t is parts e) (plain u of others f) =
-    e ∙ ap simulated (one_task system settings.seed settings.horizon settings.limit t u parts others) ∙ sym f
-one_simulation settings system r s (plain t is parts e) (not_plain never f) = absurd (cc (sym is ∙ never))
-one_simulation settings system r s (not_plain never e) (plain u of others f) = absurd (cc (sym of ∙ never))
-one_simulation settings system r s (not_plain never e) (not_plain other f) = e ∙ sym f
+one_simulation settings system r s a b =
+    a.stands ∙ ap simulated (one_task system settings.seed settings.horizon settings.limit a.task b.task a.parts b.parts) ∙ sym b.stands
 
 -- ---- texts
 
@@ -165,7 +161,6 @@ tells canonical_is task reply e = record {
   status = ap (λ (r : Reply). r.status) e;
 }
 
-pub plain_tells : CanonicalIsBehaviour → (settings : Settings) (system : System) (reply : Reply) → IsTrue (is_plain_system system) → Simulates settings system reply →
+pub simulation_tells : CanonicalIsBehaviour → (settings : Settings) (system : System) (reply : Reply) → Simulates settings system reply →
     (task : Task) × HasParts system settings.seed settings.horizon settings.limit task × TellsBehaviour task reply
-plain_tells canonical_is settings system reply is (plain task of parts e) = (task, parts, tells canonical_is task reply e)
-plain_tells canonical_is settings system reply is (not_plain never e) = absurd (cc (sym is ∙ never))
+simulation_tells canonical_is settings system reply s = (s.task, s.parts, tells canonical_is s.task reply s.stands)

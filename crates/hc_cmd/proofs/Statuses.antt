@@ -16,7 +16,7 @@ use Rattle.hc_words.specs.declared.requests.Request.TheVariants.{Check, Print, S
 use Rattle.hc_words.specs.declared.settings.Settings.{Settings}
 use Rattle.hc_cmd.specs.Reply.{Reply}
 use Rattle.hc_cmd.specs.Refusals.{status_of_module_stop, status_of_check_stop}
-use Rattle.hc_cmd.specs.Answers.{OfText, no_source, source, OfTree, unexpanded, unchecked, accepted, Simulates, plain, not_plain, Answers, status_at}
+use Rattle.hc_cmd.specs.Answers.{OfText, no_source, source, OfTree, unexpanded, unchecked, accepted, Simulates, Answers, status_at}
 
 -- what is done ends with one of these
 abbrev pub is_done : ℕ → Bool
@@ -93,8 +93,7 @@ tree_answers G tree reply given (unchecked flat s from is e) = same_answer reply
 tree_answers G tree reply given (accepted flat system from is g) = given flat system g
 
 simulation_answers : (settings : Settings) (system : System) (reply : Reply) → Simulates settings system reply → IsAnswer reply
-simulation_answers settings system reply (plain task is parts e) = same_answer reply _ e (does (status_is_done (canonical task).stop))
-simulation_answers settings system reply (not_plain is e) = same_answer reply _ e (refuses refl refl)
+simulation_answers settings system reply s = same_answer reply _ s.stands (does (status_is_done (canonical s.task).stop))
 
 pub is_answer : (request : Request) (text : List ℕ) (reply : Reply) → Answers request text reply → IsAnswer reply
 is_answer Check text reply a = text_answers _ text reply (λ tree. tree_answers _ tree reply (λ flat system e. same_answer reply _ e (does refl))) a

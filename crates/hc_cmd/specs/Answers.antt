@@ -1,5 +1,5 @@
 -- What is answered to the requests of a call.
-use Rattle.std.specs.Prelude.{◌≡◌, ℕ, true, false, List, [], ◌∷◌, ◌++◌, length, codes, decimal, IsTrue}
+use Rattle.std.specs.Prelude.{◌≡◌, ℕ, true, List, [], ◌∷◌, ◌++◌, length, codes, decimal}
 use Rattle.hc_limits.specs.Limits.{most_source_bytes}
 use Rattle.hc_frac.specs.declared.place.Place.{Place}
 use Rattle.hc_ast.specs.declared.tree.Tree.{Tree}
@@ -19,13 +19,12 @@ use Rattle.hc_term.specs.declared.system.System.{System}
 use Rattle.hc_term.specs.declared.task.Task.{Task}
 use Rattle.hc_term.specs.Given.{HasParts}
 use Rattle.hc_term.specs.Canonical.{canonical}
-use Rattle.hc_plain.specs.Plain.{is_plain_system}
 use Rattle.hc_term.specs.TraceText as trace
 use Rattle.hc_words.specs.declared.requests.Request.{Request}
 use Rattle.hc_words.specs.declared.requests.Request.TheVariants.{Check, Print, Simulate}
 use Rattle.hc_words.specs.declared.settings.Settings.{Settings}
 use Rattle.hc_words.specs.Requests.{Ask}
-use Rattle.hc_cmd.specs.declared.refusal.Refusal.TheVariants.{NotBuilt, Unexpanded, Unchecked}
+use Rattle.hc_cmd.specs.declared.refusal.Refusal.TheVariants.{Unexpanded, Unchecked}
 use Rattle.hc_cmd.specs.Reply.{Reply}
 use Rattle.hc_cmd.specs.Refusals.{refused, refused_at}
 use Rattle.hc_cmd.specs.Calls.{Call}
@@ -73,11 +72,11 @@ simulated t =
     let run = canonical t in
     record { status = status_at run.stop; out = trace.whole t.system run.items run.end.clock run.stop; err = [] }
 
--- a system of plain statements is simulated; another isn't built
-pub data Simulates (settings : Settings) (system : System) (reply : Reply) : Type 0 where
-  plain : (task : Task) → IsTrue (is_plain_system system) → HasParts system settings.seed settings.horizon settings.limit task →
-      reply ≡ simulated task → Simulates settings system reply
-  not_plain : is_plain_system system ≡ false → reply ≡ refused NotBuilt → Simulates settings system reply
+-- what simulating a system with these settings lets stand
+pub record Simulates (settings : Settings) (system : System) (reply : Reply) : Type 0 where
+  pub task : Task
+  pub parts : HasParts system settings.seed settings.horizon settings.limit task
+  pub stands : reply ≡ simulated task
 
 -- what may be answered, one line an action
 abbrev pub Answers : Request → List ℕ → Reply → Type 0

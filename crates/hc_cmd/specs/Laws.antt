@@ -1,5 +1,5 @@
 -- What holds of all texts.
-use Rattle.std.specs.Prelude.{◌≡◌, ℕ, List, [], IsTrue}
+use Rattle.std.specs.Prelude.{◌≡◌, ℕ, List, []}
 use Rattle.hc_check.specs.Accepted.{IsAccepted}
 use Rattle.hc_term.specs.declared.run.Item.{Item}
 use Rattle.hc_term.specs.declared.run.Stop.{Stop}
@@ -7,7 +7,6 @@ use Rattle.hc_term.specs.declared.model.Configuration.{Configuration}
 use Rattle.hc_term.specs.declared.system.System.{System}
 use Rattle.hc_term.specs.declared.task.Task.{Task}
 use Rattle.hc_term.specs.Given.{HasParts}
-use Rattle.hc_plain.specs.Plain.{is_plain_system}
 use Rattle.hc_term.specs.Stop.{IsBehaviour}
 use Rattle.hc_term.specs.TraceText.{whole}
 use Rattle.hc_words.specs.declared.requests.Request.{Request}
@@ -40,14 +39,9 @@ pub record TellsBehaviour (task : Task) (reply : Reply) : Type 0 where
   pub err : reply.err ≡ []
   pub status : reply.status ≡ status_at stop
 
--- systems that are simulated so far
-abbrev pub IsSimulable : System → Type 0
-IsSimulable system = IsTrue (is_plain_system system)
-
 -- The headline: what `simulate` writes of an accepted text is the whole text of a behaviour of its system, with the seed,
 -- the horizon and the limit of the words, and the status is that of the behaviour's stop.
 abbrev pub SimulationIsBehaviour : Type 0
 SimulationIsBehaviour =
-    (settings : Settings) (text : List ℕ) (system : System) (reply : Reply) → IsAccepted text system → IsSimulable system →
-    Answers (Simulate settings) text reply →
+    (settings : Settings) (text : List ℕ) (system : System) (reply : Reply) → IsAccepted text system → Answers (Simulate settings) text reply →
     (task : Task) × HasParts system settings.seed settings.horizon settings.limit task × TellsBehaviour task reply

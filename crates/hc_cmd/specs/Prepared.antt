@@ -6,7 +6,7 @@ use Rattle.hc_modules.specs.declared.flat.Flat.{Flat}
 use Rattle.hc_modules.specs.Refusals.{IsExpansion}
 use Rattle.hc_check.specs.Checked.{IsChecked}
 use Rattle.hc_term.specs.declared.system.System.{System}
-use Rattle.hc_plain.specs.Runs.{IsCanonical}
+use Rattle.hc_joint.specs.Keeps.{opened}
 use Rattle.hc_world.specs.States.{SinkState}
 use Rattle.hc_world.specs.Sinks.{IsWhole, IsCut}
 use Rattle.hc_cmd.specs.declared.ending.End.{End}
@@ -21,22 +21,18 @@ use Rattle.hc_cmd.specs.Reply.{Reply}
 use Rattle.hc_cmd.specs.Refusals.{refused}
 use Rattle.hc_cmd.specs.Answers.{OfText, OfSource, done, simulated}
 
--- what a simulation lets stand
-abbrev pub simulation_reply : Simulation → Reply
-simulation_reply s = simulated s.task
-
--- its run is the canonical run of its task
-abbrev pub IsRun : Simulation → Type 0
-IsRun s = IsCanonical s.task s.run
+-- it has done nothing yet
+abbrev pub AtOpening : Simulation → Type 0
+AtOpening s = s.joint ≡ opened s.joint.task
 
 -- what is ready lets this stand
 abbrev pub reply_to : Prepared → Reply
-reply_to (is.Simulation s) = simulation_reply s
+reply_to (is.Simulation s) = simulated s.joint.task
 reply_to (is.Size line) = done line.bytes
 reply_to (is.Spelling bytes) = done bytes.items
 
 abbrev pub IsReady : Prepared → Type 0
-IsReady (is.Simulation s) = IsRun s
+IsReady (is.Simulation s) = AtOpening s
 IsReady (is.Size line) = Unit {0}
 IsReady (is.Spelling bytes) = Unit {0}
 

@@ -12,7 +12,7 @@ use Rattle.hc_finds.specs.declared.stop.CheckStop as checks
 use Rattle.hc_finds.specs.declared.stop.CheckStop.TheVariants as check
 use Rattle.hc_cmd.specs.Reply.{Reply}
 use Rattle.hc_cmd.specs.declared.refusal.Refusal.{Refusal}
-use Rattle.hc_cmd.specs.declared.refusal.Refusal.TheVariants.{Usage, Unread, Memory, TooLong, NotBuilt, Unparsed, Unexpanded, Unchecked}
+use Rattle.hc_cmd.specs.declared.refusal.Refusal.TheVariants.{Usage, Unread, Memory, TooLong, Unparsed, Unexpanded, Unchecked}
 
 -- a message as a line
 abbrev pub line : List ℕ → List ℕ
@@ -88,7 +88,6 @@ status_of Usage = 2
 status_of Unread = 3
 status_of Memory = 5
 status_of (TooLong most) = 1
-status_of NotBuilt = 1
 status_of (Unparsed s) = status_of_stop s
 status_of (Unexpanded s) = status_of_module_stop s
 status_of (Unchecked s) = status_of_check_stop s
@@ -98,7 +97,6 @@ message_of Usage = codes "usage: hcsp ACTION [N] [--seed K] [--horizon T] [--lim
 message_of Unread = codes "read failed"
 message_of Memory = codes "out of memory"
 message_of (TooLong most) = codes "source longer than " ++ decimal most ++ codes " bytes"
-message_of NotBuilt = codes "not built"
 message_of (Unparsed s) = message_of_stop s
 message_of (Unexpanded s) = message_of_module_stop s
 message_of (Unchecked s) = message_of_check_stop s

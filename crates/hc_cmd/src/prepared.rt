@@ -64,7 +64,7 @@ fn prepare_simulation(alloc: Global, settings: Settings, text: &[u8]) -> Result<
     ensures { Prepares (Answers (asked.Simulate settings) text.now) result }
 {
     let (_, system) = accepted(alloc, text)?;
-    let simulation = Simulation::of_system(alloc, settings, system)?;
+    let simulation = Simulation::open(alloc, settings, system).map_err(|_| Refusal::Memory)?;
     Ok(Prepared::Simulation(simulation))
 }
 

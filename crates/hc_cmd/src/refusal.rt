@@ -28,8 +28,6 @@ pub enum Refusal {
     /// It has more than so many bytes.
     #[error("the source is too long")]
     TooLong(usize),
-    #[error("the source is in a form that isn't built yet")]
-    NotBuilt,
     #[error("the text isn't parsed")]
     Unparsed(ParseStop),
     #[error("the source isn't expanded")]
@@ -73,7 +71,6 @@ impl Refusal {
             Refusal::Unread => line_of("read failed"),
             Refusal::Memory => line_of("out of memory"),
             Refusal::TooLong(most) => line_of_length(most),
-            Refusal::NotBuilt => line_of("not built"),
             Refusal::Unparsed(stop) => line_of_stop(stop),
             Refusal::Unexpanded(stop) => line_of_module_stop(stop),
             Refusal::Unchecked(stop) => line_of_check_stop(stop),

@@ -1,61 +1,47 @@
-//! The simulation of a source: all that wants memory first, then the writing.
+//! The simulation of a system: all that wants memory first, then the run, written as it goes on.
 
-ghost use Rattle.std.specs.Prelude.{◌≡◌, ◌⊎◌, MatchResult};
+ghost use Rattle.std.specs.Prelude.{◌≡◌, IfOk};
 ghost use Rattle.hc_term.specs.Given.{HasParts};
-ghost use Rattle.hc_cmd.specs.Answers.{Simulates, status_at};
-ghost use Rattle.hc_cmd.specs.Refusals.{refused};
+ghost use Rattle.hc_cmd.specs.Answers.{simulated, status_at};
 
 use crate::ending::{End, Halt};
-use crate::refusal::Refusal;
-use hc_history::write_whole;
-use hc_plain::{CanonicalRun, canonical_run, is_plain_system};
+use hc_joint::Joint;
+use hc_sim::simulate;
 use hc_term::{Stop, System, Task};
 use hc_words::Settings;
 use hc_world::Sink;
-use std::alloc::Global;
+use std::alloc::{AllocError, Global};
 
-/// A simulation with all its memory: nothing is left but to write it.
+/// A simulation with all its memory, at the opening of its task.
 #[derive(Drop)]
 pub struct Simulation {
-    pub(crate) task: Task,
-    pub(crate) run: CanonicalRun,
+    pub(crate) joint: Joint,
 }
 
 impl Simulation {
-    ghost use Rattle.hc_cmd.specs.Prepared.{simulation_reply, IsRun, Performs};
+    ghost use Rattle.hc_cmd.specs.Prepared.{AtOpening, Performs};
 
-    /// The simulation of a system with these settings, or why there is none.
-    pub(crate) fn of_system(
+    /// The simulation of a system with these settings.
+    pub(crate) fn open(
         alloc: Global,
         settings: Settings,
         system: System,
-    ) -> Result<Simulation, Refusal>
-        ensures { MatchResult result
-            (λ s. IsRun s × Simulates settings system (simulation_reply s))
-            (λ r. (refused r ≡ refused Refusal.Memory) ⊎ Simulates settings system (refused r)) }
+    ) -> Result<Simulation, AllocError>
+        ensures opening { IfOk result AtOpening }
+        ensures parts { IfOk result (λ s. HasParts system settings.seed settings.horizon settings.limit s.joint.task) }
     {
-        if !is_plain_system(&system) {
-            return Err(Refusal::NotBuilt);
-        }
-        let task = task_of(settings, system);
-        let run = canonical_run(alloc, &task).map_err(|_| Refusal::Memory)?;
-        Ok(Simulation { task, run })
+        let joint = Joint::open(alloc, task_of(settings, system))?;
+        Ok(Simulation { joint })
     }
 
-    /// Writes the whole text of the run, and tells its status. It takes no memory.
+    /// Runs it to its stop, writes each line when its turn is done, and tells the status. It takes no memory.
     pub(crate) fn perform<O: Sink>(self, out: &mut O) -> Result<End, Halt>
-        requires { IsRun self }
-        ensures { Performs O.state out.old out.new (simulation_reply self) result }
+        requires { AtOpening self }
+        ensures { Performs O.state out.old out.new (simulated self.joint.task) result }
     {
-        write_whole(
-            &self.task.system,
-            self.run.items.as_slice(),
-            self.run.clock,
-            self.run.stop,
-            out,
-        )
-        .map_err(|_| Halt::Failed)?;
-        Ok(End::silent(status_of_stop(self.run.stop)))
+        let mut joint = self.joint;
+        let stop = simulate(&mut joint, out).map_err(|_| Halt::Failed)?;
+        Ok(End::silent(status_of_stop(stop)))
     }
 }
 

@@ -23,7 +23,7 @@ adds_then_flushes (Some x) (Some y) (Some z) xs adds flushes =
     (flushes.0 ∙ adds.0, λ some. flushes.1 ∙ sym (ap length flushes.0))
 
 -- some bytes stand, and then more
-begun_more : {K : Type 0} {state : K → SinkState} {a b c : K}
+pub begun_more : {K : Type 0} {state : K → SinkState} {a b c : K}
     {xs ys : List ℕ}
     → IsBegun state a b xs → IsBegun state b c ys → IsBegun state a c (xs ++ ys)
 begun_more {state} {a} {b} {c} {xs} {ys} first next = record {
@@ -77,16 +77,23 @@ cut_at_piece {state} {a} {c} {piece} behind front before cut =
     ∙ sym (append_assoc before.done piece behind) in
     subst P (sym split) (cut_after behind before.begun cut)
 
+-- behind the last piece the whole text stands
+pub begun_whole : {K : Type 0} {state : K → SinkState} {a b : K}
+    {text : List ℕ} → IsUnderWay state a b text [] → IsBegun state a b text
+begun_whole {state} {a} {b} last =
+    let P : List ℕ → Type 0 = λ bytes. IsBegun state a b bytes in
+    subst P (sym (last.split ∙ append-nil last.done)) last.begun
+
 -- after the last piece the flush says whether the whole text stands or is cut
 pub puts_at_end : {K T E : Type 0} {state : K → SinkState} {a b : K}
     {text : List ℕ} (c : K) (result : Result T E)
     → text ≢ [] → IsUnderWay state a b text [] → Finishes state b c result
     → PutsWhole state a c result text
 puts_at_end {state} {a} {b} {text} c (Ok x) some last flushed =
-    let P : List ℕ → Type 0 = λ bytes. Adds (state a).told (state b).told bytes in
-    let adds = subst P (sym (last.split ∙ append-nil last.done)) last.begun.adds in
     record {
-      adds = adds_then_flushes (state a).told (state b).told (state c).told text adds flushed.flushes;
+      adds =
+          adds_then_flushes (state a).told (state b).told (state c).told text
+          (begun_whole last).adds flushed.flushes;
       kept = flushed.kept ∙ last.begun.kept;
       untouched = λ none. absurd (some none);
     }

@@ -3,7 +3,7 @@ use Rattle.hc_ast.specs.declared.tree.Tree.{Tree}
 use Rattle.hc_modules.specs.declared.flat.Flat.{Flat}
 use Rattle.hc_modules.specs.Refusals.{IsExpansion}
 use Rattle.hc_check.specs.Checked.{IsChecked}
-use Rattle.hc_cmd.proofs.OneReply.{Decided, one_answer, text_accepted, plain_tells}
+use Rattle.hc_cmd.proofs.OneReply.{Decided, one_answer, text_accepted, simulation_tells}
 use Rattle.hc_cmd.proofs.laws.acceptance_laws.Goals as goal
 
 pub returns : goal.returns
@@ -27,6 +27,6 @@ returns c =
           c.system_laws.ensures.one_system a.flat s t a.checked (subst (λ (f : Flat). IsChecked f t) flat b.checked);
       one_answer = one_answer decided;
       sized = λ text system reply accepted a. text_accepted decided _ text system reply accepted a;
-      simulated = λ settings text system reply accepted is a.
-          plain_tells c.step_laws.ensures.canonical settings system reply is (text_accepted decided _ text system reply accepted a);
+      simulated = λ settings text system reply accepted a.
+          simulation_tells c.step_laws.ensures.canonical settings system reply (text_accepted decided _ text system reply accepted a);
     }

@@ -1,5 +1,9 @@
+use Rattle.std.proofs.Common.{refl}
 use Rattle.std.proofs.lemmas.Result.{err_from_is_err_and}
-use Rattle.hc_cmd.proofs.Finding.{memory_or, not_accepted, accepts}
+use Rattle.hc_term.specs.Given.{HasParts}
+use Rattle.hc_cmd.specs.declared.simulation.Simulation.{Simulation}
+use Rattle.hc_cmd.specs.Prepared.{AtOpening}
+use Rattle.hc_cmd.proofs.Finding.{memory_or, not_accepted, accepts, ok_found}
 use Rattle.hc_cmd.proofs.prepared.prepare_simulation.Goals as goal
 
 pub returns-in_err-system : goal.returns-in_err-system
@@ -7,11 +11,12 @@ returns-in_err-system c =
     let exit = err_from_is_err_and c.from_residual.result c.from_residual.ensures.1 in
     rw (exit.1, exit.2) (memory_or _ _ (not_accepted _ c.args.text.now) c.in_err-system.field-0.0 c.in_err-system.ensures)
 
-pub returns-in_err-simulation : goal.returns-in_err-simulation
-returns-in_err-simulation c =
-    let exit = err_from_is_err_and c.from_residual-in_err-simulation.result c.from_residual-in_err-simulation.ensures.1 in
-    rw (exit.1, exit.2) (memory_or _ _ (accepts _ c.args.text.now _ c.in_ok-system.system c.in_ok-system.ensures) c.in_err-simulation.field-0.0 c.in_err-simulation.ensures)
-
 pub returns : goal.returns
 returns c =
-    (c.in_ok-simulation.ensures.0, accepts _ c.args.text.now _ c.in_ok-system.system c.in_ok-system.ensures _ c.in_ok-simulation.ensures.1)
+    let settings = c.args.settings in
+    let system = c.in_ok-system.system in
+    let made = c.in_ok-simulation.simulation in
+    let opening : AtOpening made = ok_found AtOpening _ c.open.result c.map_err.result made c.open.ensures.opening c.map_err.ensures.cases c.in_ok-simulation.was in
+    let parts = ok_found (λ (s : Simulation). HasParts system settings.seed settings.horizon settings.limit s.joint.task) _
+        c.open.result c.map_err.result made c.open.ensures.parts c.map_err.ensures.cases c.in_ok-simulation.was in
+    (opening, accepts _ c.args.text.now _ system c.in_ok-system.ensures _ (record { task = made.joint.task; parts = parts; stands = refl }))

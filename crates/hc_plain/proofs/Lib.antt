@@ -1,9 +1,0 @@
-pub mod MovesFit
-pub mod NextMeeting
-pub mod Places
-pub mod DelayLength
-pub mod AfterDelay
-pub mod Resting
-pub mod Found
-pub mod Courses
-pub mod Opened

@@ -1,5 +1,0 @@
-pub mod Plain
-pub mod Waiting
-pub mod States
-pub mod Turns
-pub mod Runs

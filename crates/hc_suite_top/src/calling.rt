@@ -1,0 +1,53 @@
+//! Calls of the program over a source and sinks in memory.
+
+use crate::worlds::World;
+use hc_cmd::answer;
+use hc_world::{MemSink, MemSource};
+use std::alloc::{AllocError, Global};
+
+/// The words of a call; `''` is the empty word.
+fn words_of(alloc: Global, text: &str) -> Result<Vec<String>, AllocError> {
+    let mut words = Vec::new(alloc);
+    for word in text.split_whitespace() {
+        let word = if word == "''" { "" } else { word };
+        words.push(String::from_str(alloc, word)?)?;
+    }
+    Ok(words)
+}
+
+/// The bytes of a source. ` 5 blanks` has so many blanks; else `\n` is a newline.
+fn source_of(alloc: Global, text: &str) -> Result<Vec<u8>, AllocError> {
+    let text = text.strip_prefix(' ').unwrap_or(text);
+    if let Some(count) = text.strip_suffix(" blanks") {
+        return vec![in alloc; b' '; count.parse::<usize>().unwrap_or(0)];
+    }
+    let text = text.replace(alloc, "\\n", "\n")?;
+    Vec::from_slice(alloc, text.as_bytes())
+}
+
+/// What stands on a sink, with `\n` for each newline.
+fn shown(alloc: Global, bytes: &[u8]) -> Result<String, AllocError> {
+    str::from_utf8(bytes)
+        .unwrap_or("no text")
+        .replace(alloc, "\n", "\\n")
+}
+
+/// Calls the program, and tells `STATUS | OUTPUT | ERROR`.
+pub(crate) fn answer_of(
+    alloc: Global,
+    words: &str,
+    world: &str,
+    source: &str,
+) -> Result<String, AllocError> {
+    let words = words_of(alloc, words)?;
+    let world = World::of_words(alloc, world)?;
+    let mut bytes = source_of(alloc, source)?;
+    bytes.truncate(world.cut);
+    let mut source = MemSource::open(bytes, world.most.max(1), world.failing_reads);
+    let mut out = MemSink::open(alloc, world.room, world.failing_outs)?;
+    let mut err = MemSink::open(alloc, 4096, world.failing_errs)?;
+    let status = answer(alloc, &words, &mut source, &mut out, &mut err);
+    let out = shown(alloc, out.bytes())?;
+    let err = shown(alloc, err.bytes())?;
+    format!(in alloc; "{status} | {out} | {err}")
+}
