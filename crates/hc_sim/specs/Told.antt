@@ -7,7 +7,6 @@ use Rattle.hc_term.specs.Canonical.{canonical}
 use Rattle.hc_term.specs.TraceText.{lines, text, whole}
 use Rattle.hc_world.specs.States.{SinkState}
 use Rattle.hc_world.specs.Pieces.{IsBegun, PutsPiece}
-use Rattle.hc_runs.specs.Turns.{LeastTurns}
 use Rattle.hc_joint.specs.Seen.{Seen}
 use Rattle.hc_joint.specs.Keeps.{opened, Keeps, GoesForward, HasTurn}
 

@@ -25,11 +25,7 @@ fn put_line<O: Sink>(system: &System, item: &Item, out: &mut O) -> Result<(), Fa
 }
 
 /// Writes a line for each visible step, each at once.
-pub(crate) fn put_lines<O: Sink>(
-    system: &System,
-    items: &[Item],
-    out: &mut O,
-) -> Result<(), Failed>
+pub(crate) fn put_lines<O: Sink>(system: &System, items: &[Item], out: &mut O) -> Result<(), Failed>
     requires { AreInRange system.now items.now }
     ensures { PutsPiece O.state out.old out.new result (lines system.now items.now) }
 {

@@ -34,7 +34,14 @@ pub(crate) fn compared(alloc: Global, text: &[u8], other: &[u8]) -> Result<Strin
         return String::from_str(alloc, "no source");
     };
     let copy = tree.copy(alloc)?;
-    String::from_str(alloc, if same_tree(&copy, &other) { "same" } else { "other" })
+    String::from_str(
+        alloc,
+        if same_tree(&copy, &other) {
+            "same"
+        } else {
+            "other"
+        },
+    )
 }
 
 /// The spelling of a source, with `\n` for each newline.

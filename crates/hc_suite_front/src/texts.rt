@@ -40,12 +40,7 @@ pub(crate) fn bytes_of(alloc: Global, text: &str) -> Result<Vec<u8>, AllocError>
 }
 
 /// Puts a part so many times behind a text; `$` in it is 100 the first time, then 101, and so on.
-fn push_times(
-    alloc: Global,
-    text: &mut String,
-    times: u32,
-    part: &str,
-) -> Result<(), AllocError> {
+fn push_times(alloc: Global, text: &mut String, times: u32, part: &str) -> Result<(), AllocError> {
     for number in 0..times {
         let number = format!(in alloc; "{}", number.saturating_add(100))?;
         let numbered = part.replace(alloc, "$", number.as_str())?;

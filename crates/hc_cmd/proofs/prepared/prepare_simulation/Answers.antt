@@ -18,5 +18,5 @@ returns c =
     let made = c.in_ok-simulation.simulation in
     let opening : AtOpening made = ok_found AtOpening _ c.open.result c.map_err.result made c.open.ensures.opening c.map_err.ensures.cases c.in_ok-simulation.was in
     let parts = ok_found (λ (s : Simulation). HasParts system settings.seed settings.horizon settings.limit s.joint.task) _
-        c.open.result c.map_err.result made c.open.ensures.parts c.map_err.ensures.cases c.in_ok-simulation.was in
+    c.open.result c.map_err.result made c.open.ensures.parts c.map_err.ensures.cases c.in_ok-simulation.was in
     (opening, accepts _ c.args.text.now _ system c.in_ok-system.ensures _ (record { task = made.joint.task; parts = parts; stands = refl }))

@@ -1,12 +1,7 @@
-use Rattle.std.proofs.Common.{◌≡◌, refl, sym, ap, subst, ◌∙◌, true, false, Ok}
+use Rattle.std.proofs.Common.{◌≡◌, refl, sym, ap, subst, ◌∙◌, Ok}
 use Rattle.std.proofs.lemmas.Result.{err_from_is_err_and}
-use Rattle.hc_rational.specs.Words.{Rational}
 use Rattle.hc_term.specs.declared.task.Task.{Task}
-use Rattle.hc_term.specs.declared.run.Stop.{Stop}
-use Rattle.hc_term.specs.TraceText.{end_line}
 use Rattle.hc_term.specs.Canonical.{canonical}
-use Rattle.hc_trace.specs.InRange.{StopInRange}
-use Rattle.hc_world.specs.Pieces.{IsUnderWay}
 use Rattle.hc_world.specs.Sinks.{IsCut}
 use Rattle.hc_world.proofs.PieceLemmas.{cut_at_piece, under_way_start}
 use Rattle.hc_joint.specs.Keeps.{HasCourse}
@@ -34,14 +29,14 @@ pub returns-in_err-tell_turn-clause-text : goal.returns-in_err-tell_turn-clause-
 returns-in_err-tell_turn-clause-text g c =
     let exit = err_from_is_err_and c.from_residual-in_err-tell_turn.result c.from_residual-in_err-tell_turn.ensures.1 in
     let cut = cut_in_turn g.O.Sink.state c.args.out.now c.loop.out c.tell_turn.new.out c.loop.joint c.tell_turn.new.joint c.tell_turn.result _
-        c.in_err-tell_turn.was c.loop.invariant.along c.tell_turn.ensures in
+    c.in_err-tell_turn.was c.loop.invariant.along c.tell_turn.ensures in
     rw exit.1 (subst (λ (t : Task). IsCut g.O.Sink.state c.args.out.now c.tell_turn.new.out (canonical_text t)) c.loop.invariant.task cut.0)
 
 pub returns-in_err-tell_turn-clause-failed : goal.returns-in_err-tell_turn-clause-failed
 returns-in_err-tell_turn-clause-failed g c =
     let exit = err_from_is_err_and c.from_residual-in_err-tell_turn.result c.from_residual-in_err-tell_turn.ensures.1 in
     let cut = cut_in_turn g.O.Sink.state c.args.out.now c.loop.out c.tell_turn.new.out c.loop.joint c.tell_turn.new.joint c.tell_turn.result _
-        c.in_err-tell_turn.was c.loop.invariant.along c.tell_turn.ensures in
+    c.in_err-tell_turn.was c.loop.invariant.along c.tell_turn.ensures in
     rw exit.1 cut.1
 
 pub loop-smaller : goal.loop-smaller
@@ -63,12 +58,12 @@ pub returns-in_err-put_stop-clause-text : goal.returns-in_err-put_stop-clause-te
 returns-in_err-put_stop-clause-text g c =
     let exit = err_from_is_err_and c.from_residual-in_err-put_stop.result c.from_residual-in_err-put_stop.ensures.1 in
     let at = along_end g.O.Sink.state c.args.out.now c.loop.out c.tell_turn.new.out c.loop.joint c.tell_turn.new.joint c.tell_turn.result c.in-Some.stop
-        (c.in_ok-tell_turn.was ∙ ap Ok c.if-branch.false) (sym c.stop.ensures ∙ c.in-Some.is) c.loop.invariant.along c.tell_turn.ensures in
+    (c.in_ok-tell_turn.was ∙ ap Ok c.if-branch.false) (sym c.stop.ensures ∙ c.in-Some.is) c.loop.invariant.along c.tell_turn.ensures in
     let same : c.tell_turn.new.joint.task ≡ c.args.joint.now.task =
     turn_keeps g.O.Sink.state c.args.out.now c.loop.out c.tell_turn.new.out c.loop.joint c.tell_turn.new.joint c.tell_turn.result c.tell_turn.ensures
     ∙ c.loop.invariant.task in
     let there = end_there g.O.Sink.state c.args.out.now c.tell_turn.new.out c.tell_turn.new.joint c.in-Some.stop at
-        c.args.joint.now.task c.task.result.now c.clock.result same c.task.ensures c.clock.ensures in
+    c.args.joint.now.task c.task.result.now c.clock.result same c.task.ensures c.clock.ensures in
     rw exit.1 (c.in_err-put_stop.ensures c.args.out.now (canonical_text c.args.joint.now.task) there.0 there.1)
 
 pub returns-in_err-put_stop-clause-failed : goal.returns-in_err-put_stop-clause-failed
@@ -80,18 +75,18 @@ returns-in_err-put_stop-clause-failed g c =
 pub returns-clause-text : goal.returns-clause-text
 returns-clause-text g c =
     let at = along_end g.O.Sink.state c.args.out.now c.loop.out c.tell_turn.new.out c.loop.joint c.tell_turn.new.joint c.tell_turn.result c.in-Some.stop
-        (c.in_ok-tell_turn.was ∙ ap Ok c.if-branch.false) (sym c.stop.ensures ∙ c.in-Some.is) c.loop.invariant.along c.tell_turn.ensures in
+    (c.in_ok-tell_turn.was ∙ ap Ok c.if-branch.false) (sym c.stop.ensures ∙ c.in-Some.is) c.loop.invariant.along c.tell_turn.ensures in
     let same : c.tell_turn.new.joint.task ≡ c.args.joint.now.task =
     turn_keeps g.O.Sink.state c.args.out.now c.loop.out c.tell_turn.new.out c.loop.joint c.tell_turn.new.joint c.tell_turn.result c.tell_turn.ensures
     ∙ c.loop.invariant.task in
     let there = end_there g.O.Sink.state c.args.out.now c.tell_turn.new.out c.tell_turn.new.joint c.in-Some.stop at
-        c.args.joint.now.task c.task.result.now c.clock.result same c.task.ensures c.clock.ensures in
+    c.args.joint.now.task c.task.result.now c.clock.result same c.task.ensures c.clock.ensures in
     c.in_ok-put_stop.ensures c.args.out.now (canonical_text c.args.joint.now.task) there.0 there.1
 
 pub returns-clause-stop : goal.returns-clause-stop
 returns-clause-stop g c =
     let at = along_end g.O.Sink.state c.args.out.now c.loop.out c.tell_turn.new.out c.loop.joint c.tell_turn.new.joint c.tell_turn.result c.in-Some.stop
-        (c.in_ok-tell_turn.was ∙ ap Ok c.if-branch.false) (sym c.stop.ensures ∙ c.in-Some.is) c.loop.invariant.along c.tell_turn.ensures in
+    (c.in_ok-tell_turn.was ∙ ap Ok c.if-branch.false) (sym c.stop.ensures ∙ c.in-Some.is) c.loop.invariant.along c.tell_turn.ensures in
     let same : c.tell_turn.new.joint.task ≡ c.args.joint.now.task =
     turn_keeps g.O.Sink.state c.args.out.now c.loop.out c.tell_turn.new.out c.loop.joint c.tell_turn.new.joint c.tell_turn.result c.tell_turn.ensures
     ∙ c.loop.invariant.task in
@@ -100,7 +95,7 @@ returns-clause-stop g c =
 pub returns-clause-course : goal.returns-clause-course
 returns-clause-course g c =
     let at = along_end g.O.Sink.state c.args.out.now c.loop.out c.tell_turn.new.out c.loop.joint c.tell_turn.new.joint c.tell_turn.result c.in-Some.stop
-        (c.in_ok-tell_turn.was ∙ ap Ok c.if-branch.false) (sym c.stop.ensures ∙ c.in-Some.is) c.loop.invariant.along c.tell_turn.ensures in
+    (c.in_ok-tell_turn.was ∙ ap Ok c.if-branch.false) (sym c.stop.ensures ∙ c.in-Some.is) c.loop.invariant.along c.tell_turn.ensures in
     let same : c.tell_turn.new.joint.task ≡ c.args.joint.now.task =
     turn_keeps g.O.Sink.state c.args.out.now c.loop.out c.tell_turn.new.out c.loop.joint c.tell_turn.new.joint c.tell_turn.result c.tell_turn.ensures
     ∙ c.loop.invariant.task in

@@ -1,9 +1,9 @@
-use Rattle.std.proofs.Common.{◌≡◌, ◌-◌, sym, subst, Bool, true, List, length, take, drop}
+use Rattle.std.proofs.Common.{◌-◌, sym, subst, Bool, length, take, drop}
 use Rattle.std.proofs.lemmas.Result.{err_from_is_err_and}
 use Rattle.hc_term.specs.declared.task.Task.{Task}
 use Rattle.hc_trace.specs.InRange.{AreInRange}
 use Rattle.hc_joint.specs.Keeps.{GoesForward}
-use Rattle.hc_sim.proofs.Turning.{taken, slice_in_range, tells_nothing, tells_turn, cuts_turn}
+use Rattle.hc_sim.proofs.Turning.{taken, slice_in_range, tells_turn, cuts_turn}
 use Rattle.hc_sim.proofs.simulating.tell_turn.Goals as goal
 
 pub put_lines-requires : goal.put_lines-requires

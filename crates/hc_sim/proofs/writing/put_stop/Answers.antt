@@ -1,4 +1,4 @@
-use Rattle.std.proofs.Common.{◌≡◌, [], ◌++◌, sym, ◌∙◌}
+use Rattle.std.proofs.Common.{◌≡◌, [], sym, ◌∙◌}
 use Rattle.std.proofs.lemmas.List.{append-nil}
 use Rattle.std.proofs.lemmas.Result.{err_from_is_err_and}
 use Rattle.hc_world.proofs.PieceLemmas.{under_way_piece, cut_at_piece, puts_at_end}

@@ -1,11 +1,10 @@
-use Rattle.std.proofs.Common.{◌≡◌, sym, subst, ◌∙◌, List}
+use Rattle.std.proofs.Common.{sym, subst, ◌∙◌, List}
 use Rattle.std.proofs.lemmas.Result.{err_from_is_err_and}
 use Rattle.hc_rational.specs.Words.{Rational}
 use Rattle.hc_term.specs.declared.task.Task.{Task}
 use Rattle.hc_term.specs.declared.run.Item.{Item}
-use Rattle.hc_term.specs.declared.run.Stop.{Stop}
 use Rattle.hc_term.specs.TraceText.{lines, end_line}
-use Rattle.hc_trace.specs.InRange.{AreInRange, StopInRange}
+use Rattle.hc_trace.specs.InRange.{StopInRange}
 use Rattle.hc_trace.proofs.RangeLemmas.{runs_are_in_range}
 use Rattle.hc_world.specs.Pieces.{IsBegun, IsUnderWay}
 use Rattle.hc_world.specs.Sinks.{IsCut}
