@@ -31,3 +31,4 @@ pub mod RuledEvolutions
 pub mod RuledStatements
 pub mod SameSystem
 pub mod InStep
+pub mod Decided
