@@ -1,8 +1,12 @@
-//! The text of a run: its header, a line for each visible step, and the end line.
+//! The text of a run: its header, a line for each visible step, and the end line; and traces read from such texts.
 #![tactic(auto)]
 
+mod cut;
 mod laws;
 mod lines;
+mod rows;
+mod traces;
 
 pub use laws::range_laws;
 pub use lines::{HEADER, end_line, event_line, header};
+pub use traces::{EndKind, Trace, TraceEnd, TraceEvent, TraceLine, Version};

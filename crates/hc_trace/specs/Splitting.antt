@@ -1,0 +1,20 @@
+-- Where a trace begins in bytes that hold more than it.
+use Rattle.std.specs.Prelude.{◌≡◌, ◌<◌, ℕ, ◌+◌, List, ◌++◌, drop, slice_get, Some, ◌⊎◌}
+use Rattle.hc_trace.specs.declared.traces.Version.{Version}
+use Rattle.hc_trace.specs.Traces.{header_of}
+
+-- a line begins at this place: it is the start, or it is behind a newline
+abbrev pub BeginsLine : List ℕ → ℕ → Type 0
+BeginsLine bytes place = (place ≡ 0) ⊎ ((n : ℕ) × (place ≡ n + 1) × (slice_get bytes n ≡ Some 10))
+
+-- at this place the header of a trace text stands, as a line
+pub record HasHeaderAt (bytes : List ℕ) (place : ℕ) : Type 0 where
+  pub line : BeginsLine bytes place
+  pub version : Version
+  pub rest : List ℕ
+  pub header : drop place bytes ≡ header_of version ++ rest
+
+-- it is the first such place
+pub record IsFirstHeader (bytes : List ℕ) (place : ℕ) : Type 0 where
+  pub here : HasHeaderAt bytes place
+  pub first : (q : ℕ) → q < place → ¬ (HasHeaderAt bytes q)
