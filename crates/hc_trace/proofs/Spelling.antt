@@ -72,3 +72,19 @@ cut_off bytes a b w v ws h k is e =
 -- the only word is all of the bytes
 pub only_word : (bytes w : List ℕ) → Spells bytes (w ∷ []) → bytes ≡ w
 only_word bytes w e = append_cancel_right bytes w (10 ∷ []) e
+
+pub cut_word : (bytes a b w v : List ℕ) (ws : List (List ℕ)) → Lacks 32 a → IsWord w → bytes ≡ a ++ 32 ∷ b →
+    Spells bytes (w ∷ v ∷ ws) → (a ≡ w) × Spells b (v ∷ ws)
+cut_word bytes a b w v ws h word is e = cut_off bytes a b w v ws h (word_lacks 32 w refl word) is e
+
+pub cut_number : (bytes a b v : List ℕ) (q : Rational) (ws : List (List ℕ)) → Lacks 32 a → IsFrac q → bytes ≡ a ++ 32 ∷ b →
+    Spells bytes (text_of q ∷ v ∷ ws) → (a ≡ text_of q) × Spells b (v ∷ ws)
+cut_number bytes a b v q ws h fits is e = cut_off bytes a b (text_of q) v ws h (text_lacks 32 q no_blank fits) is e
+
+-- a first word and a blank in front
+pub with_newline : (bytes a b : List ℕ) → bytes ≡ a ++ 32 ∷ b → bytes ++ 10 ∷ [] ≡ a ++ 32 ∷ (b ++ 10 ∷ [])
+with_newline bytes a b is = ap (λ s. s ++ 10 ∷ []) is ∙ append_assoc a (32 ∷ b) (10 ∷ [])
+
+pub joined : (bytes a b : List ℕ) (vs : List (List ℕ)) → bytes ≡ a ++ 32 ∷ b → Spells b vs →
+    bytes ++ 10 ∷ [] ≡ a ++ 32 ∷ words vs
+joined bytes a b vs is e = with_newline bytes a b is ∙ ap (λ s. a ++ 32 ∷ s) e

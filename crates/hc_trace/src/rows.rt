@@ -11,14 +11,19 @@ use crate::cut::cut;
 use crate::traces::{EndKind, TraceEnd, TraceEvent, TraceLine, Version};
 use hc_frac::{Frac, Name};
 
+const FIRST: &[u8] = b"hcsp-trace 1";
+const SECOND: &[u8] = b"hcsp-trace 2";
+
 /// The version that has this header.
 pub(crate) fn version_of(row: &[u8]) -> Option<Version>
     ensures { Finds (λ v. spec.header_row v ≡ row.now) result }
 {
-    match row {
-        b"hcsp-trace 1" => Some(Version::First),
-        b"hcsp-trace 2" => Some(Version::Second),
-        _ => None,
+    if row == FIRST {
+        Some(Version::First)
+    } else if row == SECOND {
+        Some(Version::Second)
+    } else {
+        None
     }
 }
 
