@@ -2,4 +2,6 @@ pub mod Cuts
 pub mod Events
 mod LineLemmas
 pub mod RangeLemmas
+pub mod Refusals
+pub mod RowsOfText
 pub mod Spelling
