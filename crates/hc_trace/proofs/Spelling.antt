@@ -22,27 +22,27 @@ use Rattle.hc_trace.proofs.Cuts.{lacks_append, lacks_from, lacks_at, not_cut, on
 pub word_lacks : (b : ℕ) (w : List ℕ) → word_byte b ≡ false → IsWord w → Lacks b w
 word_lacks b w other h = lacks_from word_byte b w other h.all
 
--- the bytes of numbers: digits, the sign and the slash
+own : IsNumeralModel (AllDigits 10) (digits_value 10)
+own = numerals_by_value (AllDigits 10) tells_digits
+
+decimal_lacks : (b n : ℕ) → ¬ (IsInRange 48 57 b) → n < 2 ^ 64 → Lacks b (decimal n)
+decimal_lacks b n other small = lacks_at b (decimal n) (not_in_digits own (decimal n) b (digits_decimal own n small) other)
+
+pub signed_lacks : (b : ℕ) (z : ℤ) → ¬ (IsInRange 48 57 b) → 45 ≢ b → unsigned_abs z < 2 ^ 63 → Lacks b (signed_decimal z)
+signed_lacks b (pos n) other sign small = decimal_lacks b n other (omega arith)
+signed_lacks b (negsuc n) other sign small = (sign, decimal_lacks b (suc n) other (omega arith))
+
+-- no digit, no sign and no slash
 pub record IsNoNumeral (b : ℕ) : Type 0 where
   pub digit : ¬ (IsInRange 48 57 b)
   pub sign : 45 ≢ b
   pub slash : 47 ≢ b
 
-own : IsNumeralModel (AllDigits 10) (digits_value 10)
-own = numerals_by_value (AllDigits 10) tells_digits
-
-decimal_lacks : (b n : ℕ) → IsNoNumeral b → n < 2 ^ 64 → Lacks b (decimal n)
-decimal_lacks b n none small = lacks_at b (decimal n) (not_in_digits own (decimal n) b (digits_decimal own n small) none.digit)
-
-signed_lacks : (b : ℕ) (z : ℤ) → IsNoNumeral b → unsigned_abs z < 2 ^ 63 → Lacks b (signed_decimal z)
-signed_lacks b (pos n) none small = decimal_lacks b n none (omega arith)
-signed_lacks b (negsuc n) none small = (none.sign, decimal_lacks b (suc n) none (omega arith))
-
 text_lacks_by : (b : ℕ) (whole : Bool) (z : ℤ) (d : ℕ) → IsNoNumeral b → unsigned_abs z < 2 ^ 63 → d < 2 ^ 63 →
     Lacks b (cond whole (signed_decimal z) (signed_decimal z ++ 47 ∷ decimal d))
-text_lacks_by b true z d none h k = signed_lacks b z none h
+text_lacks_by b true z d none h k = signed_lacks b z none.digit none.sign h
 text_lacks_by b false z d none h k =
-    lacks_append b (signed_decimal z) (47 ∷ decimal d) (signed_lacks b z none h) (none.slash, decimal_lacks b d none (omega arith))
+    lacks_append b (signed_decimal z) (47 ∷ decimal d) (signed_lacks b z none.digit none.sign h) (none.slash, decimal_lacks b d none.digit (omega arith))
 
 pub text_lacks : (b : ℕ) (q : Rational) → IsNoNumeral b → IsFrac q → Lacks b (text_of q)
 text_lacks b q none fits = text_lacks_by b (q.den == 1) q.num q.den none (num_fits q fits) (den_fits q fits)
