@@ -1,8 +1,10 @@
 pub mod Cuts
 pub mod Events
+pub mod Headers
 mod LineLemmas
 pub mod OneTrace
 pub mod RangeLemmas
 pub mod Refusals
 pub mod RowsOfText
 pub mod Spelling
+pub mod UnderWay

@@ -120,10 +120,10 @@ pub rows_append : (rs ss : List (List ℕ)) → text_of_rows (rs ++ ss) ≡ text
 rows_append [] ss = refl
 rows_append (r ∷ rs) ss = ap (λ s. (r ++ 10 ∷ []) ++ s) (rows_append rs ss) ∙ sym (append_assoc (r ++ 10 ∷ []) (text_of_rows rs) (text_of_rows ss))
 
-line_row_lacks : (v : Version) (r : List ℕ) → LineRow v r → Lacks 10 r
+pub line_row_lacks : (v : Version) (r : List ℕ) → LineRow v r → Lacks 10 r
 line_row_lacks v r h = spelled_lacks r (line_words h.0) (line_plain v h.0 h.1) h.2
 
-end_row_lacks : (r : List ℕ) → EndRow r → Lacks 10 r
+pub end_row_lacks : (r : List ℕ) → EndRow r → Lacks 10 r
 end_row_lacks r h = spelled_lacks r (end_words h.0) (end_plain h.0 h.1) h.2
 
 follow_lack : (v : Version) (rs : List (List ℕ)) → Follow v rs → AllByRecursion (Lacks 10) rs

@@ -3,6 +3,7 @@ pub mod InRange
 pub mod Laws
 pub mod Reading
 pub mod Splitting
+pub mod Stops
 pub mod Traces
 pub mod Visible
 pub use Rattle.hc_term.specs.TraceText

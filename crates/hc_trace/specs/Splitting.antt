@@ -7,12 +7,14 @@ use Rattle.hc_trace.specs.Traces.{header_of}
 abbrev pub BeginsLine : List ℕ → ℕ → Type 0
 BeginsLine bytes place = (place ≡ 0) ⊎ ((n : ℕ) × (place ≡ n + 1) × (slice_get bytes n ≡ Some 10))
 
+-- the bytes begin with the header of a trace text
+abbrev pub BeginsTrace : List ℕ → Type 0
+BeginsTrace bytes = (version : Version) × (rest : List ℕ) × (bytes ≡ header_of version ++ rest)
+
 -- at this place the header of a trace text stands, as a line
 pub record HasHeaderAt (bytes : List ℕ) (place : ℕ) : Type 0 where
   pub line : BeginsLine bytes place
-  pub version : Version
-  pub rest : List ℕ
-  pub header : drop place bytes ≡ header_of version ++ rest
+  pub header : BeginsTrace (drop place bytes)
 
 -- it is the first such place
 pub record IsFirstHeader (bytes : List ℕ) (place : ℕ) : Type 0 where
