@@ -1,5 +1,5 @@
 -- Events and ends told from their words.
-use Rattle.std.proofs.Common.{◌≡◌, ◌≢◌, ◌==◌, ℕ, Bool, true, false, cond, List, [], ◌∷◌, ◌++◌, Option, Some, None, ◌⊎◌, inl, inr, get_or, refl, sym, ap, ◌∙◌, subst, arith}
+use Rattle.std.proofs.Common.{◌≡◌, ◌==◌, ℕ, List, [], ◌∷◌, ◌++◌, Option, Some, None, ◌⊎◌, inl, inr, get_or, refl, sym, ap, ◌∙◌, arith}
 use Rattle.std.specs.Prelude.{codes, if◌then◌else◌}
 use Rattle.hc_rational.specs.Words.{Rational, IsFrac}
 use Rattle.hc_frac.specs.Text.{text_of}
@@ -40,16 +40,18 @@ pub cut_event : (bytes kind parts : List ℕ) (e : TraceEvent) → Lacks 32 kind
     Spells bytes (event_word e ∷ event_parts e) → (kind ≡ event_word e) × Spells parts (event_parts e)
 cut_event bytes kind parts e h is spells =
     one_cut 32 kind (event_word e) (parts ++ 10 ∷ []) (words (event_parts e)) h (event_word_lacks e)
-        (sym (with_newline bytes kind parts is) ∙ spells ∙ event_more (event_word e) e)
+    (sym (with_newline bytes kind parts is) ∙ spells ∙ event_more (event_word e) e)
 
 -- where the word is known, the event is the one of what is behind it
 pub event_arm : (v : Version) (bytes kind parts word : List ℕ) (r : Option TraceEvent) → Lacks 32 kind → bytes ≡ kind ++ 32 ∷ parts →
     kind ≡ word → Finds (IsEventOf v word parts) r → Finds (λ e. IsEvent v e × Spells bytes (event_word e ∷ event_parts e)) r
 event_arm v bytes kind parts word None h is known none =
     λ e event. let both = cut_event bytes kind parts e h is event.1 in none e (event.0, sym both.0 ∙ known, both.1)
-event_arm v bytes kind parts word (Some e) h is known found =
-    (found.0, joined bytes kind parts (event_parts e) is found.2
-        ∙ ap (λ s. s ++ 32 ∷ words (event_parts e)) (known ∙ sym found.1) ∙ sym (event_more (event_word e) e))
+event_arm v bytes kind parts word (Some e) h is known found = (
+  found.0,
+  joined bytes kind parts (event_parts e) is found.2
+      ∙ ap (λ s. s ++ 32 ∷ words (event_parts e)) (known ∙ sym found.1) ∙ sym (event_more (event_word e) e),
+)
 
 -- a name and a value are all that is behind the word
 pub record NameAndValue (parts : List ℕ) : Type 0 where
@@ -88,8 +90,16 @@ named_comm_parts parts (Delay by) h = let clash : 100 ≡ 99 = first_byte h.1 in
 named_comm_parts parts (Comm channel None receiver value) h = absurd h.0
 named_comm_parts parts (Comm channel (Some sender) None value) h = absurd h.0
 named_comm_parts parts (Comm channel (Some sender) (Some receiver) value) h = record {
-    channel = channel; sender = sender; receiver = receiver; value = value;
-    channel_word = h.0.0; sender_word = h.0.1; receiver_word = h.0.2; fits = h.0.3; spells = h.2 }
+  channel = channel;
+  sender = sender;
+  receiver = receiver;
+  value = value;
+  channel_word = h.0.0;
+  sender_word = h.0.1;
+  receiver_word = h.0.2;
+  fits = h.0.3;
+  spells = h.2;
+}
 named_comm_parts parts (Log process value) h = let clash : 108 ≡ 99 = first_byte h.1 in absurd (omega (arith, clash))
 
 -- ---- ends
@@ -153,7 +163,7 @@ pub cut_kind : (bytes word parts : List ℕ) (e : TraceEnd) → Lacks 32 word �
     Spells bytes (end_word e.kind ∷ end_parts e.kind e.at e.who) → (word ≡ end_word e.kind) × Spells parts (end_parts e.kind e.at e.who)
 cut_kind bytes word parts e h is spells =
     one_cut 32 word (end_word e.kind) (parts ++ 10 ∷ []) (words (end_parts e.kind e.at e.who)) h (end_word_lacks e.kind)
-        (sym (with_newline bytes word parts is) ∙ spells ∙ end_more (end_word e.kind) e.kind e.at e.who)
+    (sym (with_newline bytes word parts is) ∙ spells ∙ end_more (end_word e.kind) e.kind e.at e.who)
 
 -- where the words are known, the end is the one of what is behind them
 pub end_arm : (bytes first rest word parts : List ℕ) (kind : EndKind) (r : Option TraceEnd) → Lacks 32 first → bytes ≡ first ++ 32 ∷ rest →
@@ -166,7 +176,9 @@ end_arm bytes first rest word parts kind None h is begins k cuts known none = λ
 end_arm bytes first rest word parts kind (Some e) h is begins k cuts known found =
     let same : word ≡ end_word e.kind = sym known ∙ ap end_word (sym found.1) in
     let back : rest ++ 10 ∷ [] ≡ end_word e.kind ++ 32 ∷ words (end_parts e.kind e.at e.who) =
-        joined rest word parts (end_parts e.kind e.at e.who) cuts found.2 ∙ ap (λ s. s ++ 32 ∷ words (end_parts e.kind e.at e.who)) same in
-    let more : Spells rest (end_word e.kind ∷ end_parts e.kind e.at e.who) = back ∙ sym (end_more (end_word e.kind) e.kind e.at e.who) in
-    (found.0, joined bytes first rest (end_word e.kind ∷ end_parts e.kind e.at e.who) is more
-        ∙ ap (λ s. s ++ 32 ∷ words (end_word e.kind ∷ end_parts e.kind e.at e.who)) begins)
+    joined rest word parts (end_parts e.kind e.at e.who) cuts found.2 ∙ ap (λ s. s ++ 32 ∷ words (end_parts e.kind e.at e.who)) same in
+    let more : Spells rest (end_word e.kind ∷ end_parts e.kind e.at e.who) = back ∙ sym (end_more (end_word e.kind) e.kind e.at e.who) in (
+      found.0,
+      joined bytes first rest (end_word e.kind ∷ end_parts e.kind e.at e.who) is more
+          ∙ ap (λ s. s ++ 32 ∷ words (end_word e.kind ∷ end_parts e.kind e.at e.who)) begins,
+    )

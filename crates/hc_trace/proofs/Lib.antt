@@ -8,3 +8,4 @@ pub mod Refusals
 pub mod RowsOfText
 pub mod Spelling
 pub mod UnderWay
+pub mod WrittenTrace

@@ -1,9 +1,8 @@
 -- A text has one trace at most: its rows are told from the bytes, their words from the rows, and numbers from their words.
 use lib.Signed.{mag}
-use Rattle.std.proofs.Common.{◌≡◌, ◌≢◌, ◌==◌, ℕ, ◌+◌, ◌<◌, ◌^◌, ℤ, pos, negsuc, zero, suc, Bool, true, false, cond, List, [], ◌∷◌, ◌++◌, length, Option, Some, None, ◌⊎◌, inl, inr, get_or, refl, sym, ap, ap₂, ◌∙◌, subst, arith, append_assoc}
+use Rattle.std.proofs.Common.{◌≡◌, ◌==◌, ℕ, ◌<◌, ◌^◌, ℤ, pos, negsuc, Bool, true, false, cond, List, [], ◌∷◌, ◌++◌, Option, Some, None, get_or, refl, sym, ap, ap₂, ◌∙◌, subst, arith, append_assoc}
 use Rattle.std.specs.Prelude.{codes, decimal, unsigned_abs, IfSome}
 use Rattle.std.specs.Fmt.{signed_decimal}
-use Rattle.std.specs.Int.{IsInRange}
 use Rattle.std.specs.List.{AllByRecursion, flat_map}
 use Rattle.std.proofs.lemmas.Bool.{eqb-true}
 use Rattle.std.proofs.lemmas.Fmt.{decimal_injective, signed_decimal_injective}
@@ -22,8 +21,8 @@ use Rattle.hc_trace.specs.declared.traces.TraceEvent.{TraceEvent}
 use Rattle.hc_trace.specs.declared.traces.TraceEvent.TheVariants.{Delay, Comm, Log}
 use Rattle.hc_trace.specs.declared.traces.TraceEnd.{TraceEnd}
 use Rattle.hc_trace.specs.declared.traces.EndKind.{EndKind}
-use Rattle.hc_trace.specs.declared.traces.EndKind.TheVariants.{Terminated, Deadlock, Horizon, Limit, Overflow}
-use Rattle.hc_trace.specs.Traces.{IsEvent, IsLine, IsWho, IsEnd, IsTraceText, event_word, event_parts, line_words, line_text, end_word, end_parts, end_words, end_text, header_row, header_of}
+use Rattle.hc_trace.specs.declared.traces.EndKind.TheVariants.{Overflow}
+use Rattle.hc_trace.specs.Traces.{IsEvent, IsLine, IsWho, IsEnd, event_word, event_parts, line_words, line_text, end_word, end_parts, end_words, end_text, header_row, header_of}
 use Rattle.hc_trace.specs.Reading.{Lacks, IsWholeLine}
 use Rattle.hc_trace.specs.Laws.{OneTrace}
 use Rattle.hc_trace.proofs.Cuts.{not_cut, one_cut}
@@ -118,10 +117,10 @@ pub same_line : (v : Version) (l m : TraceLine) → IsLine v l → IsLine v m �
 unfolding line_by
 same_line v l m h k e =
     let front = one_cut 32 (text_of l.at) (text_of m.at) (words (event_word l.event ∷ event_parts l.event)) (words (event_word m.event ∷ event_parts m.event))
-        (text_lacks 32 l.at no_blank h.0) (text_lacks 32 m.at no_blank k.0) e in
+    (text_lacks 32 l.at no_blank h.0) (text_lacks 32 m.at no_blank k.0) e in
     let back = one_cut 32 (event_word l.event) (event_word m.event) (words (event_parts l.event)) (words (event_parts m.event))
-        (event_word_lacks l.event) (event_word_lacks m.event)
-        (sym (event_more (event_word l.event) l.event) ∙ front.1 ∙ event_more (event_word m.event) m.event) in
+    (event_word_lacks l.event) (event_word_lacks m.event)
+    (sym (event_more (event_word l.event) l.event) ∙ front.1 ∙ event_more (event_word m.event) m.event) in
     ap₂ line_by (own_text l.at m.at h.0 k.0 front.0) (same_event v l.event m.event h.1 k.1 back.0 back.1)
 
 -- no number is the word `end`
@@ -129,7 +128,7 @@ pub line_no_end : (v : Version) (l : TraceLine) (e : TraceEnd) → IsLine v l �
 line_no_end v l e h same =
     let no_e : Lacks 101 (text_of l.at) = text_lacks 101 l.at (record { digit = λ d. omega arith; sign = λ s. omega (arith, s); slash = λ s. omega (arith, s) }) h.0 in
     let front = one_cut 32 (text_of l.at) (codes "end") (words (event_word l.event ∷ event_parts l.event)) (words (end_word e.kind ∷ end_parts e.kind e.at e.who))
-        (text_lacks 32 l.at no_blank h.0) end_lacks same in
+    (text_lacks 32 l.at no_blank h.0) end_lacks same in
     (subst (Lacks 101) front.0 no_e).0 refl
   where
     end_lacks : Lacks 32 (codes "end")
@@ -162,13 +161,13 @@ pub same_end : (d e : TraceEnd) → IsEnd d → IsEnd e → words (end_words d) 
 unfolding end_by
 same_end d e h k same =
     let front = one_cut 32 (codes "end") (codes "end") (words (end_word d.kind ∷ end_parts d.kind d.at d.who)) (words (end_word e.kind ∷ end_parts e.kind e.at e.who))
-        end_lacks end_lacks same in
+    end_lacks end_lacks same in
     let back = one_cut 32 (end_word d.kind) (end_word e.kind) (words (end_parts d.kind d.at d.who)) (words (end_parts e.kind e.at e.who))
-        (end_word_lacks d.kind) (end_word_lacks e.kind)
-        (sym (end_more (end_word d.kind) d.kind d.at d.who) ∙ front.1 ∙ end_more (end_word e.kind) e.kind e.at e.who) in
+    (end_word_lacks d.kind) (end_word_lacks e.kind)
+    (sym (end_more (end_word d.kind) d.kind d.at d.who) ∙ front.1 ∙ end_more (end_word e.kind) e.kind e.at e.who) in
     let kinds : d.kind ≡ e.kind = own_end_word d.kind e.kind back.0 in
     let parts = same_end_parts d.kind d.at e.at d.who e.who h.0 k.0 h.1 (subst (λ (n : EndKind). IsWho n e.who) (sym kinds) k.1)
-        (back.1 ∙ ap (λ n. words (end_parts n e.at e.who)) (sym kinds)) in
+    (back.1 ∙ ap (λ n. words (end_parts n e.at e.who)) (sym kinds)) in
     ap₂ (λ n q. end_by n q d.who) kinds parts.0 ∙ ap (λ w. end_by e.kind e.at w) parts.1
   where
     end_lacks : Lacks 32 (codes "end")
@@ -203,7 +202,7 @@ same_rest v (l ∷ ls) [] d (Some e) h k i j same = absurd (line_no_end v l e h.
         (line_text l ++ flat_map line_text ls) ++ end_text d ≡ words (end_words e) → words (line_words l) ≡ words (end_words e)
     end_first v l ls d e h j same =
         (whole_cut (line_text l) (words (end_words e)) (flat_map line_text ls ++ end_text d) [] (whole_line (line_words l) (line_plain v l h)) (whole_line (end_words e) (end_plain e j))
-            (sym (append_assoc (line_text l) (flat_map line_text ls) (end_text d)) ∙ same ∙ sym (append-nil (words (end_words e))))).0
+        (sym (append_assoc (line_text l) (flat_map line_text ls) (end_text d)) ∙ same ∙ sym (append-nil (words (end_words e))))).0
 same_rest v [] (m ∷ ms) None e h k i j same =
     absurd (not_nothing (line_text m) (flat_map line_text ms ++ end_text e) (whole_line (line_words m) (line_plain v m k.0)) (sym (append_assoc (line_text m) (flat_map line_text ms) (end_text e)) ∙ sym same))
 same_rest v [] (m ∷ ms) (Some d) e h k i j same = absurd (line_no_end v m d k.0 (sym (end_first v m ms e d k.0 i same)))
@@ -212,11 +211,11 @@ same_rest v [] (m ∷ ms) (Some d) e h k i j same = absurd (line_no_end v m d k.
         words (end_words d) ≡ (line_text m ++ flat_map line_text ms) ++ end_text e → words (end_words d) ≡ words (line_words m)
     end_first v m ms e d k i same =
         (whole_cut (words (end_words d)) (line_text m) [] (flat_map line_text ms ++ end_text e) (whole_line (end_words d) (end_plain d i)) (whole_line (line_words m) (line_plain v m k))
-            (append-nil (words (end_words d)) ∙ same ∙ append_assoc (line_text m) (flat_map line_text ms) (end_text e))).0
+        (append-nil (words (end_words d)) ∙ same ∙ append_assoc (line_text m) (flat_map line_text ms) (end_text e))).0
 same_rest v (l ∷ ls) (m ∷ ms) d e h k i j same =
     let cut = whole_cut (line_text l) (line_text m) (flat_map line_text ls ++ end_text d) (flat_map line_text ms ++ end_text e)
-        (whole_line (line_words l) (line_plain v l h.0)) (whole_line (line_words m) (line_plain v m k.0))
-        (sym (append_assoc (line_text l) (flat_map line_text ls) (end_text d)) ∙ same ∙ append_assoc (line_text m) (flat_map line_text ms) (end_text e)) in
+    (whole_line (line_words l) (line_plain v l h.0)) (whole_line (line_words m) (line_plain v m k.0))
+    (sym (append_assoc (line_text l) (flat_map line_text ls) (end_text d)) ∙ same ∙ append_assoc (line_text m) (flat_map line_text ms) (end_text e)) in
     let rest = same_rest v ls ms d e h.1 k.1 i j cut.1 in
     (ap₂ ◌∷◌ (same_line v l m h.0 k.0 cut.0) rest.0, rest.1)
 
@@ -236,9 +235,9 @@ pub one_trace : OneTrace
 unfolding trace_by
 one_trace bytes t u h k =
     let cut = whole_cut (header_of t.version) (header_of u.version) (flat_map line_text t.lines ++ end_text t.end) (flat_map line_text u.lines ++ end_text u.end)
-        (header_line t.version) (header_line u.version)
-        (sym (append_assoc (header_of t.version) (flat_map line_text t.lines) (end_text t.end)) ∙ sym h.spelled ∙ k.spelled
-            ∙ append_assoc (header_of u.version) (flat_map line_text u.lines) (end_text u.end)) in
+    (header_line t.version) (header_line u.version)
+    (sym (append_assoc (header_of t.version) (flat_map line_text t.lines) (end_text t.end)) ∙ sym h.spelled ∙ k.spelled
+    ∙ append_assoc (header_of u.version) (flat_map line_text u.lines) (end_text u.end)) in
     let versions : t.version ≡ u.version = own_header t.version u.version (append_cancel_right (header_row t.version) (header_row u.version) (10 ∷ []) cut.0) in
     let rest = same_rest t.version t.lines u.lines t.end u.end h.each (subst (λ (v : Version). AllByRecursion (IsLine v) u.lines) (sym versions) k.each) h.last k.last cut.1 in
     ap₂ (λ v ls. trace_by v ls t.end) versions rest.0 ∙ ap (λ e. trace_by u.version u.lines e) rest.1

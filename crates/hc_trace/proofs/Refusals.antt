@@ -1,9 +1,7 @@
 -- What refuses bytes at one line: the rows before it are told from the bytes, and the row behind them would go on.
-use Rattle.std.proofs.Common.{◌≡◌, ◌≢◌, ◌==◌, ℕ, ◌+◌, zero, suc, Bool, true, false, cond, List, [], ◌∷◌, ◌++◌, length, Option, Some, None, ◌⊎◌, inl, inr, refl, sym, ap, ap₂, ◌∙◌, subst, arith, append_assoc}
+use Rattle.std.proofs.Common.{◌≡◌, ◌≢◌, ℕ, ◌+◌, List, [], ◌∷◌, ◌++◌, ◌⊎◌, inl, inr, refl, sym, ap, ap₂, ◌∙◌, subst, append_assoc}
 use Rattle.std.specs.List.{AllByRecursion}
 use Rattle.std.proofs.lemmas.List.{append-nil}
-use Rattle.hc_trace.specs.Traces.{IsTraceText}
-use Rattle.hc_trace.specs.declared.traces.Trace.{Trace}
 use Rattle.hc_trace.specs.Reading.{Lacks, IsWholeLine, IsText, IsRefusedAt, newlines}
 use Rattle.hc_trace.specs.Laws.{OneRefusal, TextsAreNotRefused}
 use Rattle.hc_trace.proofs.RowsOfText.{AreRows, text_of_rows, rows_append, rows_lack, rows_front, not_empty, trace_rows, rows_trace, Compared, Same, Longer, Shorter, compared}
@@ -30,7 +28,7 @@ stuck bytes n h rs r more rest e f rows lack =
     let split : h.after ≡ (r ++ 10 ∷ []) ++ (text_of_rows more ++ rest) = f ∙ append_assoc (r ++ 10 ∷ []) (text_of_rows more) rest in
     let text : IsText (text_of_rows (rs ++ r ∷ [])) = rows_trace (rs ++ r ∷ []) (rows_front rs r more rows) in
     let spelled : text_of_rows (rs ++ r ∷ []) ≡ h.before ++ (r ++ 10 ∷ []) =
-        rows_append rs (r ∷ []) ∙ ap₂ ◌++◌ (sym e) (append-nil (r ++ 10 ∷ [])) in
+    rows_append rs (r ∷ []) ∙ ap₂ ◌++◌ (sym e) (append-nil (r ++ 10 ∷ [])) in
     h.next (r ++ 10 ∷ []) (text_of_rows more ++ rest) line split (subst IsText spelled text)
   where
     row_lacks : (rs : List (List ℕ)) (r : List ℕ) (more : List (List ℕ)) → AllByRecursion (Lacks 10) (rs ++ r ∷ more) → Lacks 10 r
@@ -58,7 +56,7 @@ one_refusal bytes n m h k =
     let b = before_by h.before h.stands in
     let d = before_by k.before k.stands in
     one_by bytes n m h k b d (compared b.rows h.after d.rows k.after b.lack d.lack
-        (ap (λ s. s ++ h.after) (sym b.spelled) ∙ sym h.parts ∙ k.parts ∙ ap (λ s. s ++ k.after) d.spelled))
+    (ap (λ s. s ++ h.after) (sym b.spelled) ∙ sym h.parts ∙ k.parts ∙ ap (λ s. s ++ k.after) d.spelled))
 
 -- ---- a trace text isn't refused
 
@@ -86,4 +84,4 @@ texts_are_not_refused bytes t n text h =
     let b = before_by h.before h.stands in
     let found = trace_rows bytes (t, text) in
     not_refused_by bytes n h b found.0 found.1 (compared b.rows h.after found.0 [] b.lack (rows_lack found.0 found.1)
-        (ap (λ s. s ++ h.after) (sym b.spelled) ∙ sym h.parts ∙ found.2 ∙ sym (append-nil (text_of_rows found.0))))
+    (ap (λ s. s ++ h.after) (sym b.spelled) ∙ sym h.parts ∙ found.2 ∙ sym (append-nil (text_of_rows found.0))))

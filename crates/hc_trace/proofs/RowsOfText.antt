@@ -1,23 +1,21 @@
 -- A trace text is its rows, the lines without their newlines: a header, lines, and an end at most. Bytes have the same
 -- rows however they are cut at newlines, and the first rows of a trace are a trace.
-use Rattle.std.proofs.Common.{◌≡◌, ◌≢◌, ◌==◌, ℕ, ◌+◌, zero, suc, Bool, true, false, cond, List, [], ◌∷◌, ◌++◌, length, Option, Some, None, ◌⊎◌, inl, inr, get_or, drop, refl, sym, ap, ap₂, ◌∙◌, subst, arith, append_assoc}
-use Rattle.std.specs.Prelude.{codes, count_by, IfSome}
+use Rattle.std.proofs.Common.{◌≡◌, ◌≢◌, ◌==◌, ℕ, Bool, true, cond, List, [], ◌∷◌, ◌++◌, Option, Some, None, ◌⊎◌, inl, inr, refl, sym, ap, ap₂, ◌∙◌, subst, arith, append_assoc}
+use Rattle.std.specs.Prelude.{codes, IfSome}
 use Rattle.std.specs.List.{AllByRecursion, flat_map}
 use Rattle.std.proofs.lemmas.List.{append-nil, append_cancel_right}
 use Rattle.hc_rational.specs.Words.{Rational, IsFrac}
 use Rattle.hc_frac.specs.Text.{text_of}
 use Rattle.hc_frac.specs.Word.{IsWord, word_byte}
-use Rattle.hc_term.specs.TraceText.{words}
 use Rattle.hc_trace.specs.declared.traces.Version.{Version}
 use Rattle.hc_trace.specs.declared.traces.Version.TheVariants.{First, Second}
-use Rattle.hc_trace.specs.declared.traces.Trace.{Trace}
 use Rattle.hc_trace.specs.declared.traces.TraceLine.{TraceLine}
 use Rattle.hc_trace.specs.declared.traces.TraceEvent.{TraceEvent}
 use Rattle.hc_trace.specs.declared.traces.TraceEvent.TheVariants.{Delay, Comm, Log}
 use Rattle.hc_trace.specs.declared.traces.TraceEnd.{TraceEnd}
 use Rattle.hc_trace.specs.declared.traces.EndKind.{EndKind}
 use Rattle.hc_trace.specs.declared.traces.EndKind.TheVariants.{Terminated, Deadlock, Horizon, Limit, Overflow}
-use Rattle.hc_trace.specs.Traces.{IsEvent, IsLine, IsWho, IsEnd, IsTraceText, event_word, event_parts, line_words, line_text, end_word, end_parts, end_words, end_text, header_row, header_of, trace_text}
+use Rattle.hc_trace.specs.Traces.{IsEvent, IsLine, IsWho, IsEnd, event_word, event_parts, line_words, line_text, end_word, end_parts, end_words, end_text, header_row, header_of}
 use Rattle.hc_trace.specs.Found.{Spells}
 use Rattle.hc_trace.specs.Reading.{Lacks, IsText}
 use Rattle.hc_trace.proofs.Cuts.{lacks_append, lacks_from, one_cut}
@@ -160,15 +158,19 @@ follow_rows v [] (Some e) h k =
     (row_of (end_words e) ∷ [], inr ((e, k, spells_row (end_words e)), refl), sym (spells_row (end_words e)) ∙ sym (append-nil (row_of (end_words e) ++ 10 ∷ [])))
 follow_rows v (l ∷ ls) e h k =
     let rest = follow_rows v ls e h.1 k in
-    let row = row_of (line_words l) in
-    (row ∷ rest.0, inl ((l, h.0, spells_row (line_words l)), rest.1),
-        append_assoc (line_text l) (flat_map line_text ls) (end_text e) ∙ ap₂ ◌++◌ (sym (spells_row (line_words l))) rest.2)
+    let row = row_of (line_words l) in (
+      row ∷ rest.0,
+      inl ((l, h.0, spells_row (line_words l)), rest.1),
+      append_assoc (line_text l) (flat_map line_text ls) (end_text e) ∙ ap₂ ◌++◌ (sym (spells_row (line_words l))) rest.2,
+    )
 
 pub trace_rows : (bytes : List ℕ) → IsText bytes → (rs : List (List ℕ)) × AreRows rs × (bytes ≡ text_of_rows rs)
 trace_rows bytes (t, h) =
-    let rest = follow_rows t.version t.lines t.end h.each h.last in
-    (header_row t.version ∷ rest.0, (t.version, refl, rest.1),
-        h.spelled ∙ append_assoc (header_of t.version) (flat_map line_text t.lines) (end_text t.end) ∙ ap (λ s. header_of t.version ++ s) rest.2)
+    let rest = follow_rows t.version t.lines t.end h.each h.last in (
+      header_row t.version ∷ rest.0,
+      (t.version, refl, rest.1),
+      h.spelled ∙ append_assoc (header_of t.version) (flat_map line_text t.lines) (end_text t.end) ∙ ap (λ s. header_of t.version ++ s) rest.2,
+    )
 
 record Body (v : Version) (rs : List (List ℕ)) : Type 0 where
   lines : List TraceLine
@@ -182,20 +184,33 @@ body_of v [] h = record { lines = []; end = None; each = tt; last = tt; spelled 
 body_of v (r ∷ rs) (inl h) =
     let rest = body_of v rs h.1 in
     record {
-      lines = h.0.0 ∷ rest.lines; end = rest.end; each = (h.0.1, rest.each); last = rest.last;
-      spelled = ap₂ ◌++◌ h.0.2 rest.spelled ∙ sym (append_assoc (line_text h.0.0) (flat_map line_text rest.lines) (end_text rest.end)) }
+      lines = h.0.0 ∷ rest.lines;
+      end = rest.end;
+      each = (h.0.1, rest.each);
+      last = rest.last;
+      spelled = ap₂ ◌++◌ h.0.2 rest.spelled ∙ sym (append_assoc (line_text h.0.0) (flat_map line_text rest.lines) (end_text rest.end));
+    }
 body_of v (r ∷ rs) (inr h) =
-    record { lines = []; end = Some h.0.0; each = tt; last = h.0.1;
-      spelled = ap (λ s. (r ++ 10 ∷ []) ++ text_of_rows s) h.1 ∙ append-nil (r ++ 10 ∷ []) ∙ h.0.2 }
+    record {
+      lines = [];
+      end = Some h.0.0;
+      each = tt;
+      last = h.0.1;
+      spelled = ap (λ s. (r ++ 10 ∷ []) ++ text_of_rows s) h.1 ∙ append-nil (r ++ 10 ∷ []) ∙ h.0.2;
+    }
 
 pub rows_trace : (rs : List (List ℕ)) → AreRows rs → IsText (text_of_rows rs)
 rows_trace [] h = absurd h
 rows_trace (r ∷ rs) h =
-    let body = body_of h.0 rs h.2 in
-    (record { version = h.0; lines = body.lines; end = body.end }, record {
-      each = body.each; last = body.last;
-      spelled = ap₂ (λ s u. (s ++ 10 ∷ []) ++ u) (sym h.1) body.spelled
-        ∙ sym (append_assoc (header_of h.0) (flat_map line_text body.lines) (end_text body.end)) })
+    let body = body_of h.0 rs h.2 in (
+      record { version = h.0; lines = body.lines; end = body.end },
+      record {
+        each = body.each;
+        last = body.last;
+        spelled = ap₂ (λ s u. (s ++ 10 ∷ []) ++ u) (sym h.1) body.spelled
+            ∙ sym (append_assoc (header_of h.0) (flat_map line_text body.lines) (end_text body.end));
+      },
+    )
 
 -- ---- rows side by side
 
@@ -221,5 +236,5 @@ compared [] a (s ∷ ss) c h k e = Longer s ss refl e
 compared (r ∷ rs) a [] c h k e = Shorter r rs refl (sym e)
 compared (r ∷ rs) a (s ∷ ss) c h k e =
     let cut = row_cut r s (text_of_rows rs ++ a) (text_of_rows ss ++ c) h.0 k.0
-        (sym (append_assoc (r ++ 10 ∷ []) (text_of_rows rs) a) ∙ e ∙ append_assoc (s ++ 10 ∷ []) (text_of_rows ss) c) in
+    (sym (append_assoc (r ++ 10 ∷ []) (text_of_rows rs) a) ∙ e ∙ append_assoc (s ++ 10 ∷ []) (text_of_rows ss) c) in
     compared_more r s rs ss a c cut.0 (compared rs a ss c h.1 k.1 cut.1)

@@ -1,9 +1,8 @@
 -- Words without blanks are told from their bytes: each is cut off at the first blank.
-use Rattle.std.proofs.Common.{◌≡◌, ◌≢◌, ℕ, ◌+◌, ◌<◌, ◌^◌, ◌==◌, ℤ, pos, negsuc, suc, Bool, true, false, cond, List, [], ◌∷◌, ◌++◌, length, get_or, refl, sym, ap, ap₂, ◌∙◌, subst, arith, append_assoc}
+use Rattle.std.proofs.Common.{◌≡◌, ◌≢◌, ℕ, ◌<◌, ◌^◌, ◌==◌, ℤ, pos, negsuc, suc, Bool, true, false, cond, List, [], ◌∷◌, ◌++◌, refl, sym, ap, ◌∙◌, arith, append_assoc}
 use Rattle.std.specs.Prelude.{decimal, unsigned_abs}
 use Rattle.std.specs.Fmt.{signed_decimal}
 use Rattle.std.specs.Int.{IsInRange}
-use Rattle.std.specs.List.{AllByRecursion}
 use Rattle.std.specs.Str.Parse.{AllDigits, digits_value}
 use Rattle.std.proofs.lemmas.Fmt.{digits_decimal}
 use Rattle.std.proofs.lemmas.List.{append_cancel_right}
@@ -66,7 +65,7 @@ pub cut_off : (bytes a b w v : List ℕ) (ws : List (List ℕ)) → Lacks 32 a �
     Spells bytes (w ∷ v ∷ ws) → (a ≡ w) × Spells b (v ∷ ws)
 cut_off bytes a b w v ws h k is e =
     let whole : a ++ 32 ∷ (b ++ 10 ∷ []) ≡ w ++ 32 ∷ words (v ∷ ws) =
-        sym (append_assoc a (32 ∷ b) (10 ∷ [])) ∙ ap (λ s. s ++ 10 ∷ []) (sym is) ∙ e in
+    sym (append_assoc a (32 ∷ b) (10 ∷ [])) ∙ ap (λ s. s ++ 10 ∷ []) (sym is) ∙ e in
     one_cut 32 a w (b ++ 10 ∷ []) (words (v ∷ ws)) h k whole
 
 -- the only word is all of the bytes

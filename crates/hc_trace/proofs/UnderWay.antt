@@ -1,7 +1,7 @@
 -- A text under way: what is read so far is a trace without its end, and the rest is behind it.
-use Rattle.std.proofs.Common.{◌≡◌, ◌≢◌, ◌==◌, ℕ, ◌+◌, ◌≤◌, zero, suc, Bool, true, false, cond, List, [], ◌∷◌, ◌++◌, length, Option, Some, None, ◌⊎◌, inl, inr, refl, sym, ap, ap₂, ◌∙◌, subst, arith, append_assoc, length-append}
-use Rattle.std.specs.Prelude.{count_by, Result, Ok, Err, IfOk, IfErr}
-use Rattle.std.specs.List.{AllByRecursion, flat_map, sum_by}
+use Rattle.std.proofs.Common.{◌≡◌, ◌≢◌, ◌==◌, ℕ, ◌+◌, ◌≤◌, suc, Bool, true, false, cond, List, [], ◌∷◌, ◌++◌, length, Some, None, ◌⊎◌, inl, inr, refl, sym, ap, ap₂, ◌∙◌, subst, arith, append_assoc, length-append}
+use Rattle.std.specs.Prelude.{Result, Ok, Err, IfOk, IfErr}
+use Rattle.std.specs.List.{AllByRecursion, flat_map}
 use Rattle.std.proofs.lemmas.Bool.{eqb-true}
 use Rattle.std.proofs.lemmas.List.{append-nil}
 use Rattle.std.proofs.lemmas.List.Sums.{sum_by-append, sum_by-cons}
@@ -12,9 +12,9 @@ use Rattle.hc_trace.specs.declared.traces.TraceLine.{TraceLine}
 use Rattle.hc_trace.specs.declared.traces.TraceEnd.{TraceEnd}
 use Rattle.hc_trace.specs.declared.reading.TraceStop.{TraceStop}
 use Rattle.hc_trace.specs.declared.reading.TraceStop.TheVariants.{Line, Memory}
-use Rattle.hc_trace.specs.Traces.{IsLine, IsEnd, IsTraceText, line_words, line_text, end_words, end_text, header_row, header_of, trace_text}
+use Rattle.hc_trace.specs.Traces.{IsLine, IsEnd, IsTraceText, line_words, line_text, end_words, header_row, header_of}
 use Rattle.hc_trace.specs.Found.{Spells}
-use Rattle.hc_trace.specs.Reading.{Lacks, IsWholeLine, IsText, IsRefusedAt, newlines}
+use Rattle.hc_trace.specs.Reading.{Lacks, IsText, IsRefusedAt, newlines}
 use Rattle.hc_trace.specs.Stops.{IsStop, IsTraceOrMemory, IsRefusalOrMemory}
 use Rattle.hc_trace.proofs.OneTrace.{own_header, line_no_end, one_trace}
 use Rattle.hc_trace.proofs.Refusals.{one_refusal, texts_are_not_refused}
@@ -43,9 +43,11 @@ header_length Second = refl
 
 pub started : (v : Version) (bytes header rest : List ℕ) → bytes ≡ header ++ 10 ∷ rest → header_row v ≡ header → IsUnderWay v bytes [] rest 2
 started v bytes header rest e known = record {
-    spelled = e ∙ ap (λ s. s ++ 10 ∷ rest) (sym known) ∙ sym (append_assoc (header_row v) (10 ∷ []) rest) ∙ ap (λ s. s ++ rest) (sym (append-nil (header_of v)));
-    each = tt; number = refl;
-    small = omega (arith, ap length e, length-append header (10 ∷ rest), ap length known, header_length v) }
+  spelled = e ∙ ap (λ s. s ++ 10 ∷ rest) (sym known) ∙ sym (append_assoc (header_row v) (10 ∷ []) rest) ∙ ap (λ s. s ++ rest) (sym (append-nil (header_of v)));
+  each = tt;
+  number = refl;
+  small = omega (arith, ap length e, length-append header (10 ∷ rest), ap length known, header_length v);
+}
 
 flat_append : (ls : List TraceLine) (l : TraceLine) → flat_map line_text (ls ++ l ∷ []) ≡ flat_map line_text ls ++ line_text l
 flat_append [] l = append-nil (line_text l)
@@ -63,26 +65,32 @@ pub went_on : (v : Version) (bytes : List ℕ) (lines : List TraceLine) (rest ro
     IsUnderWay v bytes lines rest n → rest ≡ row ++ 10 ∷ after → IsLine v l → Spells row (line_words l) →
     IsUnderWay v bytes (lines ++ l ∷ []) after (n + 1)
 went_on v bytes lines rest row after n l h e is spells = record {
-    spelled = h.spelled ∙ ap (λ s. (header_of v ++ flat_map line_text lines) ++ s) (opened rest row after e ∙ ap (λ s. s ++ after) spells)
+  spelled = h.spelled ∙ ap (λ s. (header_of v ++ flat_map line_text lines) ++ s) (opened rest row after e ∙ ap (λ s. s ++ after) spells)
       ∙ sym (append_assoc (header_of v ++ flat_map line_text lines) (line_text l) after)
       ∙ ap (λ s. s ++ after) (append_assoc (header_of v) (flat_map line_text lines) (line_text l) ∙ ap (λ s. header_of v ++ s) (sym (flat_append lines l)));
-    each = each_append v lines l h.each is;
-    number = omega (arith, h.number, length-append lines (l ∷ []));
-    small = omega (arith, h.small, ap length e, length-append row (10 ∷ after)) }
+  each = each_append v lines l h.each is;
+  number = omega (arith, h.number, length-append lines (l ∷ []));
+  small = omega (arith, h.small, ap length e, length-append row (10 ∷ after));
+}
 
 -- ---- the end of the text
 
 pub ended_bare : (v : Version) (bytes : List ℕ) (lines : List TraceLine) (rest : List ℕ) (n : ℕ) → IsUnderWay v bytes lines rest n → rest ≡ [] →
     IsTraceText bytes (record { version = v; lines = lines; end = None })
 ended_bare v bytes lines rest n h none = record {
-    each = h.each; last = tt; spelled = h.spelled ∙ ap (λ s. (header_of v ++ flat_map line_text lines) ++ s) none }
+  each = h.each;
+  last = tt;
+  spelled = h.spelled ∙ ap (λ s. (header_of v ++ flat_map line_text lines) ++ s) none;
+}
 
 pub ended : (v : Version) (bytes : List ℕ) (lines : List TraceLine) (rest row after : List ℕ) (n : ℕ) (e : TraceEnd) → IsUnderWay v bytes lines rest n →
     rest ≡ row ++ 10 ∷ after → after ≡ [] → IsEnd e → Spells row (end_words e) →
     IsTraceText bytes (record { version = v; lines = lines; end = Some e })
 ended v bytes lines rest row after n e h is none end spells = record {
-    each = h.each; last = end;
-    spelled = h.spelled ∙ ap (λ s. (header_of v ++ flat_map line_text lines) ++ s) (is ∙ ap (λ s. row ++ 10 ∷ s) none ∙ spells) }
+  each = h.each;
+  last = end;
+  spelled = h.spelled ∙ ap (λ s. (header_of v ++ flat_map line_text lines) ++ s) (is ∙ ap (λ s. row ++ 10 ∷ s) none ∙ spells);
+}
 
 -- ---- refusals, by rows
 
@@ -115,6 +123,7 @@ more_rows rs ss r h rows e = by_compared (compared (rs ++ r ∷ []) [] ss [] h (
     nothing : (q : List ℕ) (more : List (List ℕ)) → [] ≡ text_of_rows (q ∷ more) ++ [] → ⊥
     nothing q more f = not_empty q 10 (text_of_rows more ++ [])
         (sym (append_assoc q (10 ∷ []) (text_of_rows more ++ [])) ∙ sym (append_assoc (q ++ 10 ∷ []) (text_of_rows more) []) ∙ sym f)
+
     by_compared : Compared (rs ++ r ∷ []) [] ss [] → AreRows (rs ++ r ∷ [])
     by_compared (Same f g) = subst AreRows (sym f) rows
     by_compared (Longer q more f g) = absurd (nothing q more g)
@@ -137,15 +146,18 @@ pub refused_by : (bytes before after : List ℕ) (n : ℕ) (rs : List (List ℕ)
     n ≡ length rs + 1 → (rs ≡ []) ⊎ AreRows rs → (rs ≡ []) ⊎ (after ≢ []) →
     ((r rest : List ℕ) → Lacks 10 r → after ≡ r ++ 10 ∷ rest → AreRows (rs ++ r ∷ []) → ⊥) → IsRefusedAt bytes n
 refused_by bytes before after n rs parts e lack number stands more next = record {
-    before = before; after = after; parts = parts;
-    number = number ∙ ap (λ m. m + 1) (sym (newlines_rows rs lack) ∙ ap newlines (sym e));
-    stands = stands_by before rs e stands;
-    more = more_by before after rs e more;
-    next = λ line rest whole split text.
+  before = before;
+  after = after;
+  parts = parts;
+  number = number ∙ ap (λ m. m + 1) (sym (newlines_rows rs lack) ∙ ap newlines (sym e));
+  stands = stands_by before rs e stands;
+  more = more_by before after rs e more;
+  next = λ line rest whole split text.
       let found = trace_rows (before ++ line) text in
       let open_text : text_of_rows rs ++ (whole.row ++ 10 ∷ []) ≡ text_of_rows found.0 = ap₂ ◌++◌ (sym e) (sym whole.whole) ∙ found.2 in
       let rows = more_rows rs found.0 whole.row (lack_append rs whole.row lack whole.plain) found.1 open_text in
-      next whole.row rest whole.plain (split ∙ ap (λ s. s ++ rest) whole.whole ∙ append_assoc whole.row (10 ∷ []) rest) rows }
+      next whole.row rest whole.plain (split ∙ ap (λ s. s ++ rest) whole.whole ∙ append_assoc whole.row (10 ∷ []) rest) rows;
+}
 
 -- ---- refusals of a text under way
 
@@ -159,8 +171,12 @@ line_rows : (v : Version) (ls : List TraceLine) → AllByRecursion (IsLine v) ls
 line_rows v [] h = record { rows = []; each = tt; spelled = refl; count = refl }
 line_rows v (l ∷ ls) h =
     let rest = line_rows v ls h.1 in
-    record { rows = row_of (line_words l) ∷ rest.rows; each = ((l, h.0, spells_row (line_words l)), rest.each);
-      spelled = ap₂ ◌++◌ (sym (spells_row (line_words l))) rest.spelled; count = ap (λ n. suc n) rest.count }
+    record {
+      rows = row_of (line_words l) ∷ rest.rows;
+      each = ((l, h.0, spells_row (line_words l)), rest.each);
+      spelled = ap₂ ◌++◌ (sym (spells_row (line_words l))) rest.spelled;
+      count = ap (λ n. suc n) rest.count;
+    }
 
 all_lack : (v : Version) (rs : List (List ℕ)) → AllByRecursion (LineRow v) rs → AllByRecursion (Lacks 10) rs
 all_lack v [] h = tt
@@ -192,10 +208,10 @@ refused_here : (v : Version) (bytes : List ℕ) (lines : List TraceLine) (rest :
 refused_here v bytes lines rest n h some next =
     let found = line_rows v lines h.each in
     refused_by bytes (header_of v ++ flat_map line_text lines) rest n (header_row v ∷ found.rows) h.spelled
-        (ap (λ s. header_of v ++ s) found.spelled) (header_plain v, all_lack v found.rows found.each)
-        (omega (arith, h.number, found.count)) (inr (v, refl, all_follow v found.rows found.each)) (inr some)
-        (λ r after lack e rows. next r after lack e
-            (last_row v found.rows r (subst (λ (w : Version). Follow w (found.rows ++ r ∷ [])) (own_header rows.0 v rows.1) rows.2)))
+    (ap (λ s. header_of v ++ s) found.spelled) (header_plain v, all_lack v found.rows found.each)
+    (omega (arith, h.number, found.count)) (inr (v, refl, all_follow v found.rows found.each)) (inr some)
+    (λ r after lack e rows. next r after lack e
+    (last_row v found.rows r (subst (λ (w : Version). Follow w (found.rows ++ r ∷ [])) (own_header rows.0 v rows.1) rows.2)))
 
 pub refused_bare : (v : Version) (bytes : List ℕ) (lines : List TraceLine) (rest : List ℕ) (n : ℕ) → IsUnderWay v bytes lines rest n → rest ≢ [] →
     Lacks 10 rest → IsRefusedAt bytes n
@@ -207,7 +223,7 @@ pub refused_row : (v : Version) (bytes : List ℕ) (lines : List TraceLine) (res
     ((e : TraceEnd) → ¬ (IsEnd e × Spells row (end_words e))) → IsRefusedAt bytes n
 refused_row v bytes lines rest row after n h is lack no_line no_end =
     refused_here v bytes lines rest n h (λ none. not_empty row 10 after (sym is ∙ none))
-        (λ r behind other e found. neither r (one_cut 10 row r after behind lack other (sym is ∙ e)).0 found)
+    (λ r behind other e found. neither r (one_cut 10 row r after behind lack other (sym is ∙ e)).0 found)
   where
     neither : (r : List ℕ) → row ≡ r → LineRow v r ⊎ EndRow r → ⊥
     neither r same (inl found) = no_line found.0 (found.1, subst (λ (s : List ℕ). Spells s (line_words found.0)) (sym same) found.2)
@@ -220,14 +236,14 @@ refused_behind v bytes lines rest row after n e h is end spells some =
     let rows = found.rows ++ row ∷ [] in
     let last : EndRow row = (e, end, spells) in
     refused_by bytes ((header_of v ++ flat_map line_text lines) ++ (row ++ 10 ∷ [])) after (n + 1) (header_row v ∷ rows)
-        (h.spelled ∙ ap (λ s. (header_of v ++ flat_map line_text lines) ++ s) (opened rest row after is)
-            ∙ sym (append_assoc (header_of v ++ flat_map line_text lines) (row ++ 10 ∷ []) after))
-        (append_assoc (header_of v) (flat_map line_text lines) (row ++ 10 ∷ [])
-            ∙ ap (λ s. header_of v ++ s) (ap₂ ◌++◌ found.spelled (sym (append-nil (row ++ 10 ∷ []))) ∙ sym (rows_append found.rows (row ∷ []))))
-        (header_plain v, lack_append found.rows row (all_lack v found.rows found.each) (end_row_lacks row last))
-        (omega (arith, h.number, found.count, length-append found.rows (row ∷ [])))
-        (inr (v, refl, follow_end v found.rows row found.each last)) (inr some)
-        (λ r behind lack f all. none_behind all.0 found.rows row r last all.2)
+    (h.spelled ∙ ap (λ s. (header_of v ++ flat_map line_text lines) ++ s) (opened rest row after is)
+    ∙ sym (append_assoc (header_of v ++ flat_map line_text lines) (row ++ 10 ∷ []) after))
+    (append_assoc (header_of v) (flat_map line_text lines) (row ++ 10 ∷ [])
+    ∙ ap (λ s. header_of v ++ s) (ap₂ ◌++◌ found.spelled (sym (append-nil (row ++ 10 ∷ []))) ∙ sym (rows_append found.rows (row ∷ []))))
+    (header_plain v, lack_append found.rows row (all_lack v found.rows found.each) (end_row_lacks row last))
+    (omega (arith, h.number, found.count, length-append found.rows (row ∷ [])))
+    (inr (v, refl, follow_end v found.rows row found.each last)) (inr some)
+    (λ r behind lack f all. none_behind all.0 found.rows row r last all.2)
 
 -- ---- refusals of the first line
 
@@ -238,7 +254,7 @@ refused_bare_header bytes none =
 pub refused_header : (bytes header rest : List ℕ) → bytes ≡ header ++ 10 ∷ rest → Lacks 10 header → ((v : Version) → ¬ (header_row v ≡ header)) → IsRefusedAt bytes 1
 refused_header bytes header rest is lack other =
     refused_by bytes [] bytes 1 [] refl refl tt refl (inl refl) (inl refl)
-        (λ r behind plain e rows. other rows.0 (rows.1 ∙ sym (one_cut 10 header r rest behind lack plain (sym is ∙ e)).0))
+    (λ r behind plain e rows. other rows.0 (rows.1 ∙ sym (one_cut 10 header r rest behind lack plain (sym is ∙ e)).0))
 
 -- ---- what is right is the answer
 

@@ -6,4 +6,5 @@ pub mod Splitting
 pub mod Stops
 pub mod Traces
 pub mod Visible
+pub mod Written
 pub use Rattle.hc_term.specs.TraceText

@@ -1,5 +1,5 @@
 -- Where bytes that are no trace text are refused.
-use Rattle.std.specs.Prelude.{◌≡◌, ◌≢◌, ◌==◌, ℕ, ◌+◌, List, [], ◌∷◌, ◌++◌, ◌⊎◌, count_by, ⊤}
+use Rattle.std.specs.Prelude.{◌≡◌, ◌≢◌, ◌==◌, ℕ, ◌+◌, List, [], ◌∷◌, ◌++◌, ◌⊎◌, count_by}
 use Rattle.std.specs.List.{AllByRecursion}
 use Rattle.hc_trace.specs.declared.traces.Trace.{Trace}
 use Rattle.hc_trace.specs.Traces.{IsTraceText}
@@ -31,4 +31,3 @@ pub record IsRefusedAt (bytes : List ℕ) (n : ℕ) : Type 0 where
   pub stands : (before ≡ []) ⊎ IsText before
   pub more : (before ≡ []) ⊎ (after ≢ [])
   pub next : (line rest : List ℕ) → IsWholeLine line → after ≡ line ++ rest → ¬ (IsText (before ++ line))
-

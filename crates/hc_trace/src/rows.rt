@@ -12,6 +12,7 @@ use crate::traces::{EndKind, TraceEnd, TraceEvent, TraceLine, Version};
 use hc_frac::{Frac, Name};
 
 const FIRST: &[u8] = b"hcsp-trace 1";
+
 const SECOND: &[u8] = b"hcsp-trace 2";
 
 /// The version that has this header.

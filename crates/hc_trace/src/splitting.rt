@@ -3,6 +3,7 @@ ghost use Rattle.std.specs.Prelude.{◌≡◌, ◌≤◌, ◌↔◌, ℕ, length
 ghost use Rattle.hc_trace.specs.Splitting.{BeginsLine, BeginsTrace, HasHeaderAt, IsFirstHeader};
 
 const FIRST_HEADER: &[u8] = b"hcsp-trace 1\n";
+
 const SECOND_HEADER: &[u8] = b"hcsp-trace 2\n";
 
 /// The first place at which the header of a trace text, of version 1 or 2, stands as a line.

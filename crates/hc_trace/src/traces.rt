@@ -29,7 +29,9 @@ pub struct TraceLine {
 #[derive(Drop)]
 pub enum TraceEvent {
     /// So many time units pass.
-    Delay { by: Frac },
+    Delay {
+        by: Frac,
+    },
     /// The value is handed over on the channel. Both names are there exactly in version 2.
     Comm {
         channel: Name,
@@ -38,7 +40,10 @@ pub enum TraceEvent {
         value: Frac,
     },
     /// The process logs the value.
-    Log { process: Name, value: Frac },
+    Log {
+        process: Name,
+        value: Frac,
+    },
 }
 
 /// How a run stops.

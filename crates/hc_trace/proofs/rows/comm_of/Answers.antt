@@ -1,5 +1,4 @@
-use Rattle.std.proofs.Common.{◌≡◌, ◌≢◌, [], ◌∷◌, rules, sym, subst, ap, ◌∙◌, ◌⊎◌, inl, inr, ⊎_elim}
-use Rattle.std.proofs.lemmas.Option.{none-some}
+use Rattle.std.proofs.Common.{[], ◌∷◌, sym, subst}
 use Rattle.hc_frac.specs.Text.{text_of}
 use Rattle.hc_frac.specs.Word.{IsWord}
 use Rattle.hc_trace.proofs.Spelling.{uncut, cut_word}
@@ -20,30 +19,30 @@ pub returns-in_err-channel-in-Second-2 : goal.returns-in_err-channel-in-Second-2
 returns-in_err-channel-in-Second-2 c = rw c.from_residual-in_err-channel-in-Second-2.ensures (λ e h.
     let m = named_comm_parts c.args.parts.now e (rw c.in-Second.is at h) in
     let first = cut_word c.args.parts.now c.in_ok-channel-in-Second.channel.now c.in_ok-channel-in-Second.ends.now m.channel m.sender (m.receiver ∷ text_of m.value ∷ [])
-        c.in_ok-channel-in-Second.ensures.0 m.channel_word c.in_ok-channel-in-Second.ensures.1 m.spells in
+    c.in_ok-channel-in-Second.ensures.0 m.channel_word c.in_ok-channel-in-Second.ensures.1 m.spells in
     c.in_err-channel-in-Second-2.ensures (subst IsWord (sym first.0) m.channel_word))
 
 pub returns-in_err-sender-in-Second : goal.returns-in_err-sender-in-Second
 returns-in_err-sender-in-Second c = rw c.from_residual-in_err-sender-in-Second.ensures (λ e h.
     let m = named_comm_parts c.args.parts.now e (rw c.in-Second.is at h) in
     let first = cut_word c.args.parts.now c.in_ok-channel-in-Second.channel.now c.in_ok-channel-in-Second.ends.now m.channel m.sender (m.receiver ∷ text_of m.value ∷ [])
-        c.in_ok-channel-in-Second.ensures.0 m.channel_word c.in_ok-channel-in-Second.ensures.1 m.spells in
+    c.in_ok-channel-in-Second.ensures.0 m.channel_word c.in_ok-channel-in-Second.ensures.1 m.spells in
     uncut c.in_ok-channel-in-Second.ends.now m.sender m.receiver (text_of m.value ∷ []) c.in_err-sender-in-Second.ensures first.1)
 
 pub returns-in_err-sender-in-Second-2 : goal.returns-in_err-sender-in-Second-2
 returns-in_err-sender-in-Second-2 c = rw c.from_residual-in_err-sender-in-Second-2.ensures (λ e h.
     let m = named_comm_parts c.args.parts.now e (rw c.in-Second.is at h) in
     let first = cut_word c.args.parts.now c.in_ok-channel-in-Second.channel.now c.in_ok-channel-in-Second.ends.now m.channel m.sender (m.receiver ∷ text_of m.value ∷ [])
-        c.in_ok-channel-in-Second.ensures.0 m.channel_word c.in_ok-channel-in-Second.ensures.1 m.spells in
+    c.in_ok-channel-in-Second.ensures.0 m.channel_word c.in_ok-channel-in-Second.ensures.1 m.spells in
     let second = cut_word c.in_ok-channel-in-Second.ends.now c.in_ok-sender-in-Second.sender.now c.in_ok-sender-in-Second.rest.now m.sender m.receiver (text_of m.value ∷ [])
-        c.in_ok-sender-in-Second.ensures.0 m.sender_word c.in_ok-sender-in-Second.ensures.1 first.1 in
+    c.in_ok-sender-in-Second.ensures.0 m.sender_word c.in_ok-sender-in-Second.ensures.1 first.1 in
     c.in_err-sender-in-Second-2.ensures (subst IsWord (sym second.0) m.sender_word))
 
 pub returns-in_err-receiver-in-Second : goal.returns-in_err-receiver-in-Second
 returns-in_err-receiver-in-Second c = rw c.from_residual-in_err-receiver-in-Second.ensures (λ e h.
     let m = named_comm_parts c.args.parts.now e (rw c.in-Second.is at h) in
     let first = cut_word c.args.parts.now c.in_ok-channel-in-Second.channel.now c.in_ok-channel-in-Second.ends.now m.channel m.sender (m.receiver ∷ text_of m.value ∷ [])
-        c.in_ok-channel-in-Second.ensures.0 m.channel_word c.in_ok-channel-in-Second.ensures.1 m.spells in
+    c.in_ok-channel-in-Second.ensures.0 m.channel_word c.in_ok-channel-in-Second.ensures.1 m.spells in
     let second = cut_word c.in_ok-channel-in-Second.ends.now c.in_ok-sender-in-Second.sender.now c.in_ok-sender-in-Second.rest.now m.sender m.receiver (text_of m.value ∷ [])
-        c.in_ok-sender-in-Second.ensures.0 m.sender_word c.in_ok-sender-in-Second.ensures.1 first.1 in
+    c.in_ok-sender-in-Second.ensures.0 m.sender_word c.in_ok-sender-in-Second.ensures.1 first.1 in
     c.in_err-receiver-in-Second.ensures (m.receiver, m.value) (m.receiver_word, m.fits, second.1))

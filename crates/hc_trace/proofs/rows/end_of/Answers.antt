@@ -1,4 +1,4 @@
-use Rattle.std.proofs.Common.{◌≡◌, ◌≢◌, [], ◌∷◌, rules, arith, sym, subst, ap, ◌∙◌, ◌⊎◌, inl, inr, ⊎_elim}
+use Rattle.std.proofs.Common.{◌≡◌, ◌≢◌, rules, arith, sym, ap, ◌∙◌}
 use Rattle.std.specs.Prelude.{codes}
 use Rattle.std.proofs.lemmas.Slice.Eq.{text_from_reads}
 use Rattle.hc_trace.specs.declared.traces.EndKind.TheVariants.{Overflow}
@@ -22,12 +22,12 @@ returns-then-eq c =
     let begins : c.in_ok-first.first.now ≡ codes "end" = text_from_reads c.in_ok-first.first.now (codes "end") (omega arith) (omega arith, (omega arith, (omega arith, tt))) in
     let overflow : c.in_ok-kind-2.kind ≡ Overflow = search rules in
     end_arm c.args.row.now c.in_ok-first.first.now c.in_ok-first.rest.now c.in_ok-kind.kind.now c.in_ok-kind.parts.now Overflow c.overflow_of.result
-        c.in_ok-first.ensures.0 c.in_ok-first.ensures.1 begins c.in_ok-kind.ensures.0 c.in_ok-kind.ensures.1
-        (ap end_word (sym overflow) ∙ c.in_ok-kind-2.ensures) c.overflow_of.ensures
+    c.in_ok-first.ensures.0 c.in_ok-first.ensures.1 begins c.in_ok-kind.ensures.0 c.in_ok-kind.ensures.1
+    (ap end_word (sym overflow) ∙ c.in_ok-kind-2.ensures) c.overflow_of.ensures
 
 pub returns-else-eq : goal.returns-else-eq
 returns-else-eq c =
     let begins : c.in_ok-first.first.now ≡ codes "end" = text_from_reads c.in_ok-first.first.now (codes "end") (omega arith) (omega arith, (omega arith, (omega arith, tt))) in
     end_arm c.args.row.now c.in_ok-first.first.now c.in_ok-first.rest.now c.in_ok-kind.kind.now c.in_ok-kind.parts.now c.in_ok-kind-2.kind c.plain_end_of.result
-        c.in_ok-first.ensures.0 c.in_ok-first.ensures.1 begins c.in_ok-kind.ensures.0 c.in_ok-kind.ensures.1
-        c.in_ok-kind-2.ensures c.plain_end_of.ensures
+    c.in_ok-first.ensures.0 c.in_ok-first.ensures.1 begins c.in_ok-kind.ensures.0 c.in_ok-kind.ensures.1
+    c.in_ok-kind-2.ensures c.plain_end_of.ensures

@@ -1,4 +1,4 @@
-use Rattle.std.proofs.Common.{◌≡◌, ◌≢◌, [], ◌∷◌, rules, arith, sym, subst, ap, ◌∙◌, ◌⊎◌, inl, inr, ⊎_elim}
+use Rattle.std.proofs.Common.{◌≡◌, rules, arith, sym}
 use Rattle.std.specs.Prelude.{codes}
 use Rattle.std.proofs.lemmas.Slice.Eq.{text_from_reads}
 use Rattle.hc_trace.specs.declared.traces.TraceEvent.{TraceEvent}
@@ -10,19 +10,19 @@ pub returns-in-log : goal.returns-in-log
 returns-in-log c =
     let known : c.in_ok-kind.kind.now ≡ codes "log" = text_from_reads c.in_ok-kind.kind.now (codes "log") (omega arith) (omega arith, (omega arith, (omega arith, tt))) in
     event_arm c.args.version c.args.words.now c.in_ok-kind.kind.now c.in_ok-kind.parts.now (codes "log") c.log_of.result
-        c.in_ok-kind.ensures.0 c.in_ok-kind.ensures.1 known (c.log_of.ensures c.args.version)
+    c.in_ok-kind.ensures.0 c.in_ok-kind.ensures.1 known (c.log_of.ensures c.args.version)
 
 pub returns-in-comm : goal.returns-in-comm
 returns-in-comm c =
     let known : c.in_ok-kind.kind.now ≡ codes "comm" = text_from_reads c.in_ok-kind.kind.now (codes "comm") (omega arith) (omega arith, (omega arith, (omega arith, (omega arith, tt)))) in
     event_arm c.args.version c.args.words.now c.in_ok-kind.kind.now c.in_ok-kind.parts.now (codes "comm") c.comm_of.result
-        c.in_ok-kind.ensures.0 c.in_ok-kind.ensures.1 known c.comm_of.ensures
+    c.in_ok-kind.ensures.0 c.in_ok-kind.ensures.1 known c.comm_of.ensures
 
 pub returns-in-delay : goal.returns-in-delay
 returns-in-delay c =
     let known : c.in_ok-kind.kind.now ≡ codes "delay" = text_from_reads c.in_ok-kind.kind.now (codes "delay") (omega arith) (omega arith, (omega arith, (omega arith, (omega arith, (omega arith, tt))))) in
     event_arm c.args.version c.args.words.now c.in_ok-kind.kind.now c.in_ok-kind.parts.now (codes "delay") c.delay_of.result
-        c.in_ok-kind.ensures.0 c.in_ok-kind.ensures.1 known (c.delay_of.ensures c.args.version)
+    c.in_ok-kind.ensures.0 c.in_ok-kind.ensures.1 known (c.delay_of.ensures c.args.version)
 
 pub returns-in_default : goal.returns-in_default
 returns-in_default c =

@@ -1,4 +1,3 @@
-use Rattle.std.proofs.Common.{◌≡◌, ◌≢◌, [], ◌∷◌, rules, sym, subst, ap, ◌∙◌, ◌⊎◌, inl, inr, ⊎_elim}
 use Rattle.hc_trace.proofs.Events.{log_parts}
 use Rattle.hc_trace.proofs.rows.log_of.Goals as goal
 

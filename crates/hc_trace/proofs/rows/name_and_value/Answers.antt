@@ -1,4 +1,4 @@
-use Rattle.std.proofs.Common.{◌≡◌, ◌≢◌, [], ◌∷◌, rules, sym, subst, ap, ◌∙◌, ◌⊎◌, inl, inr, ⊎_elim}
+use Rattle.std.proofs.Common.{[], sym, subst}
 use Rattle.std.proofs.lemmas.Option.{none-some}
 use Rattle.hc_frac.specs.Text.{text_of}
 use Rattle.hc_frac.specs.Word.{IsWord}

@@ -1,4 +1,4 @@
-use Rattle.std.proofs.Common.{◌≡◌, ◌≢◌, [], ◌∷◌, rules, sym, subst, ap, ◌∙◌, ◌⊎◌, inl, inr, ⊎_elim}
+use Rattle.std.proofs.Common.{◌≢◌, [], rules, sym, subst, ◌∙◌, inl, inr}
 use Rattle.std.specs.Prelude.{codes}
 use Rattle.std.proofs.lemmas.Option.{none-some}
 use Rattle.hc_frac.specs.Text.{text_of}
@@ -22,10 +22,10 @@ pub returns-in_err-new-in_default : goal.returns-in_err-new-in_default
 returns-in_err-new-in_default c =
     let other : codes "*" ≢ c.in_ok-at.who.now = search rules in
     rw c.from_residual-in_err-new-in_default.ensures (λ e h.
-        let parts = overflow_parts c.args.parts.now e h in
-        let cut = cut_number c.args.parts.now c.in_ok-at.at.now c.in_ok-at.who.now parts.who e.at [] c.in_ok-at.ensures.0 parts.fits c.in_ok-at.ensures.1 parts.spells in
-        let same = only_word c.in_ok-at.who.now parts.who cut.1 in
-        elim parts.star_or_word [
-          inl star ↦ other (sym (same ∙ star))
-        | inr word ↦ c.in_err-new-in_default.ensures (subst IsWord (sym same) word)
-        ])
+    let parts = overflow_parts c.args.parts.now e h in
+    let cut = cut_number c.args.parts.now c.in_ok-at.at.now c.in_ok-at.who.now parts.who e.at [] c.in_ok-at.ensures.0 parts.fits c.in_ok-at.ensures.1 parts.spells in
+    let same = only_word c.in_ok-at.who.now parts.who cut.1 in
+    elim parts.star_or_word [
+      | inl star ↦ other (sym (same ∙ star))
+      | inr word ↦ c.in_err-new-in_default.ensures (subst IsWord (sym same) word)
+    ])
