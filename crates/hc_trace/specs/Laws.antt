@@ -1,5 +1,5 @@
--- What steps and stops name belongs to the system.
-use Rattle.std.specs.Prelude.{List}
+-- What steps and stops name belongs to the system; what is read of a text is told by its bytes.
+use Rattle.std.specs.Prelude.{◌≡◌, ℕ, List}
 use Rattle.hc_term.specs.declared.task.Task.{Task}
 use Rattle.hc_term.specs.declared.run.Item.{Item}
 use Rattle.hc_term.specs.declared.run.Stop.{Stop}
@@ -7,7 +7,10 @@ use Rattle.hc_term.specs.declared.model.Configuration.{Configuration}
 use Rattle.hc_term.specs.Step.{Leads, opening}
 use Rattle.hc_term.specs.Stop.{IsBehaviour}
 use Rattle.hc_term.specs.Canonical.{canonical}
+use Rattle.hc_trace.specs.declared.traces.Trace.{Trace}
 use Rattle.hc_trace.specs.InRange.{AreInRange, StopInRange}
+use Rattle.hc_trace.specs.Traces.{IsTraceText}
+use Rattle.hc_trace.specs.Reading.{IsRefusedAt}
 
 -- the steps of every run of a task name processes and channels of its system, of each such channel both ends used
 abbrev pub RunsAreInRange : Type 0
@@ -22,3 +25,15 @@ BehavioursAreInRange =
 -- and those of the canonical run
 abbrev pub CanonicalIsInRange : Type 0
 CanonicalIsInRange = (t : Task) → AreInRange t.system (canonical t).items × StopInRange t.system (canonical t).stop
+
+-- bytes are the text of one trace at most
+abbrev pub OneTrace : Type 0
+OneTrace = (bytes : List ℕ) (t u : Trace) → IsTraceText bytes t → IsTraceText bytes u → t ≡ u
+
+-- bytes are refused at one line at most
+abbrev pub OneRefusal : Type 0
+OneRefusal = (bytes : List ℕ) (n m : ℕ) → IsRefusedAt bytes n → IsRefusedAt bytes m → n ≡ m
+
+-- a trace text isn't refused
+abbrev pub TextsAreNotRefused : Type 0
+TextsAreNotRefused = (bytes : List ℕ) (t : Trace) (n : ℕ) → IsTraceText bytes t → IsRefusedAt bytes n → ⊥

@@ -1,4 +1,10 @@
+pub mod Found
 pub mod InRange
 pub mod Laws
+pub mod Reading
+pub mod Splitting
+pub mod Stops
+pub mod Traces
 pub mod Visible
+pub mod Written
 pub use Rattle.hc_term.specs.TraceText
