@@ -16,7 +16,7 @@ fn words_of(alloc: Global, text: &str) -> Result<Vec<String>, AllocError> {
 }
 
 /// The bytes of a source. ` 5 blanks` has so many blanks; else `\n` is a newline.
-fn source_of(alloc: Global, text: &str) -> Result<Vec<u8>, AllocError> {
+pub(crate) fn source_of(alloc: Global, text: &str) -> Result<Vec<u8>, AllocError> {
     let text = text.strip_prefix(' ').unwrap_or(text);
     if let Some(count) = text.strip_suffix(" blanks") {
         return vec![in alloc; b' '; count.parse::<usize>().unwrap_or(0)];

@@ -1,21 +1,29 @@
-//! Answers rows of calls of the top call, one a line: the status, and what stands on output and on error.
+//! Answers rows of calls of the top call, one a line: the status, and what stands on output and on error; and rows of
+//! trace texts that are read.
 #![tactic(auto)]
 
 mod calling;
+mod tracing;
 mod worlds;
 
-use calling::answer_of;
+use calling::{answer_of, source_of};
 use std::alloc::{AllocError, Global};
 use std::io;
+use tracing::{place_of, trace_of};
 
-/// The answer to a row `WORDS | WORLD | SOURCE`. Any other line stands for itself.
+/// The answer to a row `WORDS | WORLD | SOURCE`, or `read_trace | | TEXT` or `split_text | | TEXT`. Any other line stands
+/// for itself.
 fn answer_to(alloc: Global, line: &str) -> Result<String, AllocError> {
     let Some((words, rest)) = line.split_once('|') else {
         return String::from_str(alloc, line);
     };
-    match rest.split_once('|') {
-        Some((world, source)) => answer_of(alloc, words, world, source),
-        None => String::from_str(alloc, line),
+    let Some((world, text)) = rest.split_once('|') else {
+        return String::from_str(alloc, line);
+    };
+    match words.trim() {
+        "read_trace" => trace_of(alloc, source_of(alloc, text)?.as_slice()),
+        "split_text" => place_of(alloc, source_of(alloc, text)?.as_slice()),
+        _ => answer_of(alloc, words, world, text),
     }
 }
 
