@@ -50,7 +50,7 @@ user_within : (sending : Bool) (c n : ℕ) (ps : List Process) (p : ℕ) → use
 user_within sending c n [] p e = absurd (cc e)
 user_within sending c n (b ∷ bs) p e =
     user_by (is_user sending c b) (user_from sending c (n + 1) bs) n p (n + length (b ∷ bs)) e (omega arith)
-        (λ f. omega (arith, user_within sending c (n + 1) bs p f))
+    (λ f. omega (arith, user_within sending c (n + 1) bs p f))
 
 -- ---- steps
 
@@ -73,7 +73,7 @@ comm_line sys at c v (Some p) (Some q) h f g within sends receives s r =
     let l : TraceLine = record { at = at; event = event.Comm (written.channel_name sys c) (Some (written.process_name sys p)) (Some (written.process_name sys q)) v } in
     let is : IsLine Second l = (f, (channel_word sys.channels c h.channels within, process_word sys p h sender, process_word sys q h receiver, g)) in
     let same : written.line_of_step sys at (step.Comm c v) ≡ line_text l =
-        ap₂ (λ (a b : Option ℕ). written.words (text_of at ∷ codes "comm" ∷ written.channel_name sys c ∷ written.end_name sys a ∷ written.end_name sys b ∷ text_of v ∷ [])) sends receives in
+    ap₂ (λ (a b : Option ℕ). written.words (text_of at ∷ codes "comm" ∷ written.channel_name sys c ∷ written.end_name sys a ∷ written.end_name sys b ∷ text_of v ∷ [])) sends receives in
     let found = one_line sys l is in
     record { lines = found.lines; each = found.each; spelled = same ∙ found.spelled }
 
@@ -88,12 +88,15 @@ step_lines sys at (step.Delay d) h f g within = one_line sys (record { at = at; 
 
 both_lines : (sys : System) (xs ys : List ℕ) → Lines sys xs → Lines sys ys → Lines sys (xs ++ ys)
 both_lines sys xs ys a b = record {
-    lines = a.lines ++ b.lines; each = both_each a.lines b.lines a.each b.each;
-    spelled = ap₂ ◌++◌ a.spelled b.spelled ∙ both_text a.lines b.lines }
+  lines = a.lines ++ b.lines;
+  each = both_each a.lines b.lines a.each b.each;
+  spelled = ap₂ ◌++◌ a.spelled b.spelled ∙ both_text a.lines b.lines;
+}
   where
     both_each : (ls ms : List TraceLine) → AllByRecursion (IsLine Second) ls → AllByRecursion (IsLine Second) ms → AllByRecursion (IsLine Second) (ls ++ ms)
     both_each [] ms h k = k
     both_each (l ∷ ls) ms h k = (h.0, both_each ls ms h.1 k)
+
     both_text : (ls ms : List TraceLine) → flat_map line_text ls ++ flat_map line_text ms ≡ flat_map line_text (ls ++ ms)
     both_text [] ms = refl
     both_text (l ∷ ls) ms = append_assoc (line_text l) (flat_map line_text ls) (flat_map line_text ms) ∙ ap (λ s. line_text l ++ s) (both_text ls ms)
@@ -122,6 +125,8 @@ stop_end sys clock (stop.Overflow (Some p)) h f within =
 pub written_is_trace : WrittenIsTrace
 written_is_trace sys items clock s h f g within stops =
     let found = item_lines sys items h f within in
-    let last = stop_end sys clock s h g stops in
-    (record { version = Second; lines = found.lines; end = Some last.end }, refl,
-        record { each = found.each; last = last.is; spelled = ap₂ (λ a b. (header_of Second ++ a) ++ b) found.spelled last.spelled })
+    let last = stop_end sys clock s h g stops in (
+      record { version = Second; lines = found.lines; end = Some last.end },
+      refl,
+      record { each = found.each; last = last.is; spelled = ap₂ (λ a b. (header_of Second ++ a) ++ b) found.spelled last.spelled },
+    )
