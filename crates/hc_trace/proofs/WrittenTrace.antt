@@ -1,5 +1,5 @@
 -- Each line that is written of a step says a line of a trace: its names are those of the system, words all.
-use Rattle.std.proofs.Common.{◌≡◌, ℕ, ◌+◌, ◌<◌, zero, suc, Bool, true, false, cond, List, [], ◌∷◌, ◌++◌, length, Option, Some, None, refl, sym, ap, ap₂, ◌∙◌, subst, arith, append_assoc}
+use Rattle.std.proofs.Common.{◌≡◌, ℕ, ◌+◌, ◌<◌, zero, suc, Bool, true, false, cond, List, [], ◌∷◌, ◌++◌, length, Option, Some, None, refl, sym, ap, ap₂, ◌∙◌, arith, append_assoc}
 use Rattle.std.specs.Prelude.{slice_get, is_some, codes}
 use Rattle.std.specs.List.{AllByRecursion, flat_map}
 use Rattle.std.proofs.lemmas.Bool.{and_parts}
@@ -18,13 +18,12 @@ use Rattle.hc_term.specs.Rules.{is_user}
 use Rattle.hc_term.specs.Ends.{user_from, ends_of}
 use Rattle.hc_term.specs.TraceText as written
 use Rattle.hc_trace.specs.declared.traces.Version.TheVariants.{Second}
-use Rattle.hc_trace.specs.declared.traces.Trace.{Trace}
 use Rattle.hc_trace.specs.declared.traces.TraceLine.{TraceLine}
 use Rattle.hc_trace.specs.declared.traces.TraceEvent.TheVariants as event
 use Rattle.hc_trace.specs.declared.traces.TraceEnd.{TraceEnd}
 use Rattle.hc_trace.specs.declared.traces.EndKind.TheVariants as kind
 use Rattle.hc_trace.specs.InRange.{StepInRange, AreInRange, StopInRange}
-use Rattle.hc_trace.specs.Traces.{IsLine, IsEnd, IsTraceText, line_text, end_text, header_of}
+use Rattle.hc_trace.specs.Traces.{IsLine, IsEnd, line_text, end_text, header_of}
 use Rattle.hc_trace.specs.Written.{HasWords, HasFractions, AreFractions, WrittenIsTrace}
 
 -- ---- names

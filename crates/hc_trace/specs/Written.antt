@@ -1,5 +1,5 @@
 -- What is written of a behaviour is the text of a trace.
-use Rattle.std.specs.Prelude.{◌≡◌, List, Option, Some, None, ⊤}
+use Rattle.std.specs.Prelude.{◌≡◌, List, Some, None, ⊤}
 use Rattle.std.specs.List.{AllByRecursion}
 use Rattle.hc_rational.specs.Words.{Rational, IsFrac}
 use Rattle.hc_frac.specs.Word.{IsWord}
