@@ -11,7 +11,7 @@ import sys
 import time
 from pathlib import Path
 
-HCSP = Path(__file__).resolve().parent.parent / "hcsp"
+PROGRAM = Path(__file__).resolve().parent.parent / "crates/hc_main/out/hc_main"
 RATES = [1, 2, 3, 4, 6, 8]
 MOST_STEPS = 1_000_000
 
@@ -29,7 +29,7 @@ def run(text, limit):
     """The last line of the trace, the seconds that it took, and the greatest memory in bytes."""
     read, write = os.pipe()
     start = time.monotonic()
-    child = subprocess.Popen([HCSP, "simulate", "--horizon", "30000", "--limit", str(limit)], stdin=read, stdout=subprocess.PIPE)
+    child = subprocess.Popen([PROGRAM, "simulate", "--horizon", "30000", "--limit", str(limit)], stdin=read, stdout=subprocess.PIPE)
     os.close(read)
     os.write(write, text)
     os.close(write)
@@ -58,7 +58,7 @@ def main():
     for count in pairs:
         text = source(count)
         steps = steps_of(text)
-        end, seconds, memory = min((run(text, MOST_STEPS) for _ in range(3)), key=lambda found: found[1])
+        end, seconds, memory = min((run(text, MOST_STEPS) for _ in range(7)), key=lambda found: found[1])
         assert end.startswith("end terminated"), end
         each = seconds / steps
         first = first or each
