@@ -1,0 +1,90 @@
+#!/usr/bin/env python3
+"""How the time of `hcsp check` grows with the text, over the worst shapes of a source.
+
+Prints a table: for each shape the seconds at about 250,000, 500,000 and 1,048,576 bytes, and how many times the time
+grows where the size doubles. Build the program first (`./hcsp check < examples/tank.hcsp`).
+"""
+import subprocess
+import sys
+import tempfile
+import time
+from pathlib import Path
+
+PROGRAM = Path(__file__).resolve().parent.parent / "crates/hc_main/out/hc_main"
+SIZES = [250_000, 500_000, 1_048_576]
+REST = "system P = (skip) endsystem\n"
+
+
+def repeated(size, before, part, behind):
+    """As many parts as fit between these two, each made from its number."""
+    parts, room = [], size - len(before) - len(behind)
+    while True:
+        text = part(len(parts))
+        if len(text) > room:
+            return before + "".join(parts) + behind
+        parts.append(text)
+        room -= len(text)
+
+
+def parameters(size):
+    return repeated(size, "module M(val z", lambda n: f", val p{n}", "): begin skip end endmodule\n" + REST)
+
+
+def modules(size):
+    return repeated(size, "", lambda n: f"module M{n}(): begin skip end endmodule\n", REST)
+
+
+def writes(size):
+    half = repeated(size // 2, "module M(val z", lambda n: f", val p{n}", "): begin skip")
+    count = half.count(",")
+    body, room = [], size - len(half) - 60
+    for n in range(count):
+        text = f"; q{n} := p{n}"
+        if len(text) > room:
+            break
+        body.append(text)
+        room -= len(text)
+    return half + "".join(body) + " end endmodule\n" + REST
+
+
+def channels(size):
+    """10,000 statements over 256 channels in 64 processes, the sends made long by their values."""
+    each = 10_000 // 64
+    wide = max(1, (size - 10_000 * 8) // 10_000 // 2)
+    value = "+".join(["1"] * min(wide, 100))
+    processes = []
+    for p in range(64):
+        statements = [f"c{(p * 4 + n) % 256 if n < 4 else p * 4 + n % 4}!{value}" for n in range(each)]
+        processes.append(f"P{p} = ({'; '.join(statements)})")
+    return "system\n" + " ||\n".join(processes) + "\nendsystem\n"
+
+
+def expressions(size):
+    return repeated(size, "system P = (x := 1", lambda n: "; x := " + "(" * 60 + "1" + ")" * 60 + "+1" * 99, ") endsystem\n")
+
+
+def seconds(text):
+    with tempfile.TemporaryFile() as source:
+        source.write(text.encode())
+        best = None
+        for _ in range(3):
+            source.seek(0)
+            start = time.monotonic()
+            subprocess.run([PROGRAM, "check"], stdin=source, stdout=subprocess.DEVNULL, stderr=subprocess.DEVNULL, timeout=600)
+            spent = time.monotonic() - start
+            best = spent if best is None else min(best, spent)
+        return best
+
+
+def main():
+    print("| shape | " + " | ".join(f"{size:,} bytes" for size in SIZES) + " | growth |")
+    print("|---|---|---|---|---|")
+    for shape in [parameters, modules, writes, channels, expressions]:
+        found = [seconds(shape(size)) for size in SIZES]
+        growth = ", ".join(f"{later / earlier:.1f}" for earlier, later in zip(found, found[1:]))
+        print(f"| {shape.__name__} | " + " | ".join(f"{each:.2f} s" for each in found) + f" | {growth} |")
+        sys.stdout.flush()
+
+
+if __name__ == "__main__":
+    main()
