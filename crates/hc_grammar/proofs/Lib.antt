@@ -13,3 +13,5 @@ pub mod Found
 pub mod Exact
 pub mod Tables
 pub mod Steps
+pub mod Answered
+pub mod OneAnswerLemmas
