@@ -83,6 +83,10 @@ pub trait Reader {
     ) -> Row<Self::Kind, Self::Head, Self::Role, Self::Mark>
         ensures { row_of result ≡ language.table.entry head kind };
 
+    /// The mark that stands in the place of a phrase that is empty, if there is one.
+    fn left_out(head: Self::Head) -> Option<Self::Mark>
+        ensures { result ≡ language.table.left_out head };
+
     /// Whether the first kind, which is wanted, takes a token of the second.
     fn takes(wanted: Self::Kind, kind: Self::Kind) -> bool
         ensures { result ≡ language.table.same wanted kind };

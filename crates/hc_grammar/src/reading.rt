@@ -51,7 +51,11 @@ impl<R: Reader + Drop> Reading<R> {
                         self.stack.push_all(first)?;
                         return self.reader.token(alloc, role, token);
                     }
-                    Row::Skips => {}
+                    Row::Skips => {
+                        if let Some(mark) = R::left_out(head) {
+                            self.reader.mark(alloc, mark)?;
+                        }
+                    }
                     Row::Refuses => return Err(Fault::Flaw(R::syntax())),
                 },
             }
