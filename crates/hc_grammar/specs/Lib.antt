@@ -11,5 +11,6 @@ pub mod Answers
 pub mod RowOf
 pub mod Taken
 pub mod Remaining
+pub mod Exact
 pub mod Stops
 pub mod OneAnswer

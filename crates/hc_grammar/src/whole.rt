@@ -1,11 +1,11 @@
 //! Reading a whole text.
 
-ghost use Rattle.std.specs.Prelude.{◌≡◌, IfOk, IfErr};
-ghost use Rattle.hc_frac.specs.declared.place.Place.{Place as At};
+ghost use Rattle.std.specs.Prelude.{◌≡◌};
 ghost use Rattle.hc_grammar.specs.Answers.{Accepted};
 ghost use Rattle.hc_grammar.specs.Ends.{Ends};
 ghost use Rattle.hc_grammar.specs.Language.{is_last};
-ghost use Rattle.hc_grammar.specs.Stops.{IsStop, IsRefusedAt, IsValueOrMemory, IsStopOrMemory};
+ghost use Rattle.hc_grammar.specs.Refusals.{IsRefusedAt};
+ghost use Rattle.hc_grammar.specs.Exact.{IsExact};
 ghost use Rattle.hc_grammar.specs.Stops as spec;
 
 use crate::language::{Fault, Reader};
@@ -42,15 +42,8 @@ pub fn read<R: Reader + Drop, I: Source<R::Token>>(
     requires state { R.state reader ≡ R.language.opening }
     requires value { R.value reader ≡ R.language.blank }
     requires ended { Ends (is_last R.language) (I.left source.old) }
-
-    // An answer is right.
-    ensures value { IfOk result (λ r. Accepted R.language R.Is (I.left source.old) (R.value r)) }
-    ensures refusal { IfErr result (IsStop R.language R.Is R.place (I.left source.old)) }
-
-    // And what is right is the answer, unless memory runs out.
-    ensures every_value { (v : R.Value) → Accepted R.language R.Is (I.left source.old) v → IsValueOrMemory R.value v result }
-    ensures every_refusal { (flaw : R.Flaw) (place : At)
-        → IsRefusedAt R.language R.Is R.place (I.left source.old) flaw place → IsStopOrMemory flaw place result }
+    ensures { IsExact R.value spec.told (Accepted R.language R.Is (I.left source.old))
+        (IsRefusedAt R.language.reader R.Is R.language.opening R.place (I.left source.old)) result }
 {
     let Ok(mut reading) = Reading::new(alloc, reader) else {
         return Err(Stop::Memory);
