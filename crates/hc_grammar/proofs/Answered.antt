@@ -19,14 +19,14 @@ use Rattle.hc_grammar.specs.Exact.{IsExact}
 use Rattle.hc_grammar.specs.Stops.{told, stop_at}
 
 -- two refusals that are one
-same_parts : {X Y Z : Type 0} (r : Result Z (X × Y)) (a c : X) (b d : Y) → r ≡ Err (a, b) → r ≡ Err (c, d) → (a ≡ c) × (b ≡ d)
+pub same_parts : {X Y Z : Type 0} (r : Result Z (X × Y)) (a c : X) (b d : Y) → r ≡ Err (a, b) → r ≡ Err (c, d) → (a ≡ c) × (b ≡ d)
 same_parts {X} {Y} r a c b d e f =
     let p : (let x : X × Y = (a, b) in x) ≡ (c, d) = cc in (ap (λ (x : X × Y). x.0) p, ap (λ (x : X × Y). x.1) p)
 
-not_both : {X Z : Type 0} (r : Result Z X) (v : Z) (x : X) → r ≡ Ok v → r ≡ Err x → ⊥
+pub not_both : {X Z : Type 0} (r : Result Z X) (v : Z) (x : X) → r ≡ Ok v → r ≡ Err x → ⊥
 not_both r v x e f = cc
 
-same_value : {X Z : Type 0} (r : Result Z X) (v w : Z) → r ≡ Ok v → r ≡ Ok w → v ≡ w
+pub same_value : {X Z : Type 0} (r : Result Z X) (v w : Z) → r ≡ Ok v → r ≡ Ok w → v ≡ w
 same_value r v w e f = cc
 
 module _ {K H A B T S R V : Type 0} {c : Language K H A B T S R V} (x : Setting c) (ts : List T) (end : Ends (is_last c) ts)

@@ -99,9 +99,17 @@ const REFUSED: [(&[Word], Flaw, u32); 9] = [
         2,
     ),
     // let it;
-    (&[(Kind::Let, 0), (Kind::It, 0), (Kind::End, 0)], Flaw::Syntax, 2),
+    (
+        &[(Kind::Let, 0), (Kind::It, 0), (Kind::End, 0)],
+        Flaw::Syntax,
+        2,
+    ),
     // let 7
-    (&[(Kind::Let, 0), (Kind::Name, 7), (Kind::End, 0)], Flaw::Syntax, 3),
+    (
+        &[(Kind::Let, 0), (Kind::Name, 7), (Kind::End, 0)],
+        Flaw::Syntax,
+        3,
+    ),
     // use ((((
     (
         &[
