@@ -47,13 +47,13 @@ abbrev mutual
   stmt (g.log word left value right) w =
       Read word.0 r.Keep ∷ Read left.0 r.Plain ∷ Did m.Fresh ∷ expr value (Read right.0 r.Plain ∷ Did m.Log ∷ w)
   stmt (g.communicate i) w = io i (Did m.Io ∷ w)
-  stmt (g.when word test then_word yes end_word) w =
+  stmt (g.when word test then_word body end_word) w =
       Read word.0 r.Begin ∷ Did m.Fresh
-      ∷ cond test (Read then_word.0 r.Plain ∷ seq yes (Read end_word.0 r.Close ∷ Did m.If ∷ w))
-  stmt (g.choose word test then_word yes else_word no end_word) w =
+      ∷ cond test (Read then_word.0 r.Plain ∷ seq body (Read end_word.0 r.Close ∷ Did m.If ∷ w))
+  stmt (g.choose word test then_word body else_word other end_word) w =
       Read word.0 r.Begin ∷ Did m.Fresh
       ∷ cond test
-      (Read then_word.0 r.Plain ∷ seq yes (Read else_word.0 r.Plain ∷ seq no (Read end_word.0 r.Close ∷ Did m.Else ∷ w)))
+      (Read then_word.0 r.Plain ∷ seq body (Read else_word.0 r.Plain ∷ seq other (Read end_word.0 r.Close ∷ Did m.Else ∷ w)))
   stmt (g.pick left first right sign left' second right') w =
       Read left.0 r.Begin ∷ seq first
       (Read right.0 r.Close ∷ Read sign.0 r.Plain ∷ Read left'.0 r.Open

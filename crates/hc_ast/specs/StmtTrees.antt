@@ -58,10 +58,10 @@ abbrev mutual
   stmt_tree (g.wait word left time right) = stmt_at word.0.place (s.Wait (expr_tree time))
   stmt_tree (g.log word left value right) = stmt_at word.0.place (s.Log (expr_tree value))
   stmt_tree (g.communicate i) = stmt_at (io_place i) (s.Io (io_tree i))
-  stmt_tree (g.when word test then_word yes end_word) =
-      stmt_at word.0.place (s.If (cond_tree test) (seq_tree yes) None)
-  stmt_tree (g.choose word test then_word yes else_word no end_word) =
-      stmt_at word.0.place (s.If (cond_tree test) (seq_tree yes) (Some (seq_tree no)))
+  stmt_tree (g.when word test then_word body end_word) =
+      stmt_at word.0.place (s.If (cond_tree test) (seq_tree body) None)
+  stmt_tree (g.choose word test then_word body else_word other end_word) =
+      stmt_at word.0.place (s.If (cond_tree test) (seq_tree body) (Some (seq_tree other)))
   stmt_tree (g.pick left first right sign left' second right') =
       stmt_at left.0.place (s.Pick (seq_tree first) (seq_tree second))
   stmt_tree (g.forever left body right stars) = stmt_at left.0.place (s.Forever (seq_tree body))

@@ -35,9 +35,9 @@ mutual
     wait : (word : OfKind k.Wait) (left : OfKind k.OpenRound) (time : Expr) (right : OfKind k.CloseRound) → Stmt
     log : (word : OfKind k.Log) (left : OfKind k.OpenRound) (value : Expr) (right : OfKind k.CloseRound) → Stmt
     communicate : (i : Io) → Stmt
-    when : (word : OfKind k.If) (test : Cond) (then_word : OfKind k.Then) (yes : Seq) (end_word : OfKind k.EndIf) → Stmt
-    choose : (word : OfKind k.If) (test : Cond) (then_word : OfKind k.Then) (yes : Seq)
-        (else_word : OfKind k.Else) (no : Seq) (end_word : OfKind k.EndIf) → Stmt
+    when : (word : OfKind k.If) (test : Cond) (then_word : OfKind k.Then) (body : Seq) (end_word : OfKind k.EndIf) → Stmt
+    choose : (word : OfKind k.If) (test : Cond) (then_word : OfKind k.Then) (body : Seq)
+        (else_word : OfKind k.Else) (other : Seq) (end_word : OfKind k.EndIf) → Stmt
     pick : (left : OfKind k.OpenRound) (first : Seq) (right : OfKind k.CloseRound) (sign : OfKind k.PlusPlus)
         (left' : OfKind k.OpenRound) (second : Seq) (right' : OfKind k.CloseRound) → Stmt
     forever : (left : OfKind k.OpenRound) (body : Seq) (right : OfKind k.CloseRound) (stars : OfKind k.StarStar) → Stmt
