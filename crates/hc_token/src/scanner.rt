@@ -10,6 +10,7 @@ use crate::token::{Content, Token};
 use hc_frac::Place;
 use hc_grammar::Source;
 use hc_scan::{Lexer, Piece};
+use std::marker::Model;
 
 /// How a text of the source language is cut into tokens.
 #[derive(Drop)]
@@ -50,11 +51,20 @@ pub struct Scanner<'a> {
     tokens: hc_scan::Scanner<'a, SourceLexer>,
 }
 
+impl<'a> Model for Scanner<'a> {
+    ghost use Rattle.std.specs.Prelude.{List};
+    ghost use Rattle.hc_token.specs.declared.token.Token.{Token as Said};
+
+    ghost Value = { List Said };
+
+    ghost view = { λ s. ⟦<hc_scan::Scanner<'static, SourceLexer> as Source<Token>>⟧.left s.tokens };
+}
+
 impl<'a> Scanner<'a> {
     /// A scanner at the first token of a text.
     pub fn new(text: &'a [u8]) -> Self
         requires { length text.now + 1 < 2 ^ 32 }
-        ensures tokens { ⟦<Scanner<'a> as Source<Token>>⟧.left result ≡ spec.tokens_of text.now }
+        ensures tokens { result ≡ spec.tokens_of text.now }
         ensures ended { spec.AreEnded (spec.tokens_of text.now) }
     {
         Scanner {
@@ -64,7 +74,7 @@ impl<'a> Scanner<'a> {
 }
 
 impl<'a> Source<Token> for Scanner<'a> {
-    ghost left = { λ s. ⟦<hc_scan::Scanner<'a, SourceLexer> as Source<Token>>⟧.left s.tokens };
+    ghost left = { λ tokens. tokens };
 
     fn next(&mut self) -> Option<Token> {
         self.tokens.next()
