@@ -12,6 +12,7 @@ use crate::counts::Flaw;
 use crate::reading::{Fault, Reading};
 use hc_ast::Tree;
 use hc_frac::Place;
+use hc_grammar::Source;
 use hc_token::Scanner;
 use std::alloc::Global;
 
@@ -61,7 +62,8 @@ pub fn parse(alloc: Global, bytes: &[u8]) -> Result<Tree, ParseStop>
     let Ok(mut reading) = Reading::new(alloc) else {
         return Err(ParseStop::Memory);
     };
-    for token in Scanner::new(bytes) {
+    let mut tokens = Scanner::new(bytes);
+    while let Some(token) = tokens.next() {
         let place = token.place;
         if let Err(fault) = reading.take(alloc, token) {
             return Err(stop_of(fault, place));

@@ -9,46 +9,46 @@ use Rattle.hc_parse.specs.declared.parsing.ParseStop.{ParseStop}
 
 -- all tokens are read
 read : (c : goal.After-finish) → reads_all (tokens_of c.args.bytes.now) ≡ Ok c.loop-token.reading.values
-read c = all_read (tokens_of c.args.bytes.now) c.loop-token.token-iterator c.loop-token.reading c.loop-token.invariant c.in-None.ensures.steps.0
+read c = all_read (tokens_of c.args.bytes.now) c.loop-token.tokens c.loop-token.reading c.loop-token.invariant c.in_default-next.ensures
 
 pub returns-clause-tree : goal.returns-clause-tree
 returns-clause-tree c =
     subst (IsSource c.args.bytes.now) (sym c.finish.ensures)
-    (is_source c.args.bytes.now c.new-token-items.ensures.ended c.loop-token.reading.values (read c))
+    (is_source c.args.bytes.now c.new-tokens.ensures.ended c.loop-token.reading.values (read c))
 
 pub returns-clause-every_tree : goal.returns-clause-every_tree
 returns-clause-every_tree c =
-    λ t x. c.finish.ensures ∙ one_tree c.args.bytes.now c.new-token-items.ensures.ended c.loop-token.reading.values (read c) t x
+    λ t x. c.finish.ensures ∙ one_tree c.args.bytes.now c.new-tokens.ensures.ended c.loop-token.reading.values (read c) t x
 
 pub returns-clause-every_refusal : goal.returns-clause-every_refusal
 returns-clause-every_refusal c =
-    no_refusal c.args.bytes.now c.new-token-items.ensures.ended c.loop-token.reading.values (read c)
+    no_refusal c.args.bytes.now c.new-tokens.ensures.ended c.loop-token.reading.values (read c)
 
 pub returns-in-Err-clause-refusal : goal.returns-in-Err-clause-refusal
 returns-in-Err-clause-refusal c =
     let ts = tokens_of c.args.bytes.now in
     let f : Faulty ts c.in-Some.token c.in-Err.fault =
-    faulty ts c.loop-token.token-iterator c.next.new.self c.loop-token.reading c.in-Some.token c.in-Err.fault
-    c.loop-token.invariant c.in-Some.ensures.steps c.in-Err.ensures.err in
+    faulty ts c.loop-token.tokens c.next.new.self c.loop-token.reading c.in-Some.token c.in-Err.fault
+    c.loop-token.invariant c.in-Some.ensures c.in-Err.ensures.err in
     subst (IsStop c.args.bytes.now) (sym c.stop_of.ensures)
-    (is_stop c.args.bytes.now c.new-token-items.ensures.ended c.in-Some.token c.in-Err.fault f)
+    (is_stop c.args.bytes.now c.new-tokens.ensures.ended c.in-Some.token c.in-Err.fault f)
 
 pub returns-in-Err-clause-every_tree : goal.returns-in-Err-clause-every_tree
 returns-in-Err-clause-every_tree c =
     let ts = tokens_of c.args.bytes.now in
     let f : Faulty ts c.in-Some.token c.in-Err.fault =
-    faulty ts c.loop-token.token-iterator c.next.new.self c.loop-token.reading c.in-Some.token c.in-Err.fault
-    c.loop-token.invariant c.in-Some.ensures.steps c.in-Err.ensures.err in
+    faulty ts c.loop-token.tokens c.next.new.self c.loop-token.reading c.in-Some.token c.in-Err.fault
+    c.loop-token.invariant c.in-Some.ensures c.in-Err.ensures.err in
     λ t x.
     subst (λ (s : ParseStop). IsTreeOrMemory t (Err s)) (sym c.stop_of.ensures)
-    (no_tree c.args.bytes.now c.new-token-items.ensures.ended c.in-Some.token c.in-Err.fault f t x)
+    (no_tree c.args.bytes.now c.new-tokens.ensures.ended c.in-Some.token c.in-Err.fault f t x)
 
 pub returns-in-Err-clause-every_refusal : goal.returns-in-Err-clause-every_refusal
 returns-in-Err-clause-every_refusal c =
     let ts = tokens_of c.args.bytes.now in
     let f : Faulty ts c.in-Some.token c.in-Err.fault =
-    faulty ts c.loop-token.token-iterator c.next.new.self c.loop-token.reading c.in-Some.token c.in-Err.fault
-    c.loop-token.invariant c.in-Some.ensures.steps c.in-Err.ensures.err in
+    faulty ts c.loop-token.tokens c.next.new.self c.loop-token.reading c.in-Some.token c.in-Err.fault
+    c.loop-token.invariant c.in-Some.ensures c.in-Err.ensures.err in
     λ g p x.
     subst (λ (s : ParseStop). IsStopOrMemory g p (Err s)) (sym c.stop_of.ensures)
-    (one_stop c.args.bytes.now c.new-token-items.ensures.ended c.in-Some.token c.in-Err.fault f g p x)
+    (one_stop c.args.bytes.now c.new-tokens.ensures.ended c.in-Some.token c.in-Err.fault f g p x)
