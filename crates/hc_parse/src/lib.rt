@@ -9,7 +9,6 @@ mod parsing;
 mod source_marks;
 mod stmt_marks;
 mod text;
-mod tokens;
 mod values;
 
 pub use laws::text_laws;

@@ -5,10 +5,10 @@ ghost use Rattle.hc_limits.specs.Limits.{most_source_bytes};
 ghost use Rattle.hc_parse.specs.Stops as spec;
 
 use crate::text::SourceText;
-use crate::tokens::Tokens;
 use hc_ast::{Flaw, Tree};
 use hc_frac::Place;
 use hc_grammar::{Stop, read};
+use hc_token::Scanner;
 use std::alloc::Global;
 
 /// Why there is no tree.
@@ -49,7 +49,7 @@ pub fn parse(alloc: Global, bytes: &[u8]) -> Result<Tree, ParseStop>
     requires { length bytes.now ≤ most_source_bytes }
     ensures { spec.IsExact bytes.now result }
 {
-    let mut tokens = Tokens::new(bytes);
+    let mut tokens = Scanner::new(bytes);
     match read(alloc, SourceText::new(alloc), &mut tokens) {
         Ok(text) => Ok(text.values.tree()),
         Err(stop) => Err(stop_of(stop)),

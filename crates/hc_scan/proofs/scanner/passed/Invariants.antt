@@ -1,6 +1,6 @@
 use Rattle.std.proofs.Common.{◌≡◌, ◌+◌, ◌≤◌, take, fold}
-use Rattle.hc_token.specs.Tokens.{after}
-use Rattle.hc_token.proofs.scanner.passed.Given as goal
+use Rattle.hc_scan.specs.Places.{after}
+use Rattle.hc_scan.proofs.scanner.passed.Given as goal
 
 abbrev pub invariant-loop-byte : goal.invariant-loop-byte
 invariant-loop-byte l =
