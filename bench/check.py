@@ -59,7 +59,35 @@ def channels(size):
     return "system\n" + " ||\n".join(processes) + "\nendsystem\n"
 
 
+def arguments(size):
+    """A call with as many arguments as fit; up to 25,000 of them stand in the module."""
+    low, high = 0, size // 8
+    while low < high:
+        middle = (low + high + 1) // 2
+        if len(arguments_text(middle)) <= size:
+            low = middle
+        else:
+            high = middle - 1
+    return arguments_text(low)
+
+
+def arguments_text(count):
+    names = [f"p{n}" for n in range(count)]
+    used = names[:25_000]
+    sums = ["x := " + "+".join(used[n : n + 100]) for n in range(0, len(used), 100)]
+    params = ", ".join(f"val {name}" for name in names)
+    given = ", ".join("1" for _ in names)
+    return f"module M({params}): begin {'; '.join(sums)} end endmodule\nsystem P = M({given}) endsystem\n"
+
+
+def calls(size):
+    """64 calls of the last of as many modules as fit."""
+    rest = "system " + " || ".join(f"P{n} = LAST()" for n in range(64)) + " endsystem\n"
+    return repeated(size, "", lambda n: f"module M{n}(): begin skip end endmodule\n", "module LAST(): begin skip end endmodule\n" + rest)
+
+
 def expressions(size):
+    """Wide sums behind deep brackets, as many assignments as fit."""
     return repeated(size, "system P = (x := 1", lambda n: "; x := " + "(" * 60 + "1" + ")" * 60 + "+1" * 99, ") endsystem\n")
 
 
@@ -79,7 +107,7 @@ def seconds(text):
 def main():
     print("| shape | " + " | ".join(f"{size:,} bytes" for size in SIZES) + " | growth |")
     print("|---|---|---|---|---|")
-    for shape in [parameters, modules, writes, channels, expressions]:
+    for shape in [parameters, modules, writes, arguments, calls, channels, expressions]:
         found = [seconds(shape(size)) for size in SIZES]
         growth = ", ".join(f"{later / earlier:.1f}" for earlier, later in zip(found, found[1:]))
         print(f"| {shape.__name__} | " + " | ".join(f"{each:.2f} s" for each in found) + f" | {growth} |")

@@ -7,7 +7,10 @@ pub mod Full
 pub mod FullTrees
 pub mod Nothing
 pub mod WellFacts
-pub mod Judged
+pub mod Firsts
+pub mod Stopped
+pub mod Repeats
+pub mod Bound
 pub mod WrittenForms
 pub mod Induction
 pub mod InForms

@@ -6,6 +6,7 @@ pub mod Outermost
 pub mod Finds
 pub mod Refusals
 pub mod Well
+pub mod Tables
 pub mod Calls
 pub mod Found
 pub mod Counted

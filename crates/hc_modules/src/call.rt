@@ -1,37 +1,27 @@
 //! What the parameters of a module stand for in a call.
 
-ghost use Rattle.std.specs.Prelude.{◌≡◌, option_map};
+ghost use Rattle.std.specs.Prelude.{◌≡◌, zip, option_map, IfOk, OnOk};
+ghost use Rattle.std.specs.Option.{option_or};
 ghost use Rattle.hc_modules.specs.Bindings as spec;
-ghost use Rattle.hc_modules.specs.Calls.{bindings};
+ghost use Rattle.hc_modules.specs.Tables as table;
 
 use hc_ast::{ExprKind, ExprTree, Param, ParamKind};
 use hc_frac::Name;
+use indexmap::IndexMap;
+use std::alloc::{AllocError, Global};
 
-/// The parameters of a module, and the arguments for them in the same order.
-#[derive(Clone, Copy)]
+/// The arguments for the parameters of one kind, by their names.
+type Table<'a> = IndexMap<Name, &'a ExprTree>;
+
+/// The parameters of a module, and the arguments for them in the same order, which can be found by name.
+#[derive(Drop)]
 pub(crate) struct Call<'a> {
     pub(crate) params: &'a [Param],
     pub(crate) arguments: &'a [ExprTree],
-}
-
-/// Whether a parameter is a channel of this name.
-fn is_channel_of(param: &Param, name: &Name) -> bool
-    ensures { result ≡ spec.is_channel_of name.now param.now }
-{
-    match param.kind {
-        ParamKind::Channel => param.name == *name,
-        ParamKind::Value => false,
-    }
-}
-
-/// Whether a parameter is a value of this name.
-pub(crate) fn is_value_of(param: &Param, name: &Name) -> bool
-    ensures { result ≡ spec.is_value_of name.now param.now }
-{
-    match param.kind {
-        ParamKind::Channel => false,
-        ParamKind::Value => param.name == *name,
-    }
+    pub(crate) channels: Table<'a>,
+    pub(crate) values: Table<'a>,
+    pub ghost by_channel: { table.Finds channels (spec.channel_argument (zip params.now arguments.now)) },
+    pub ghost by_value: { table.Finds values (spec.value_for (zip params.now arguments.now)) },
 }
 
 /// The name that an expression is, where it is nothing else.
@@ -44,14 +34,80 @@ pub(crate) fn bare_name(expr: &ExprTree) -> Option<&Name>
     }
 }
 
+/// Whether a parameter is of this kind.
+fn is_kind(kind: ParamKind, param: &Param) -> bool
+    ensures { result ≡ table.is_kind kind param.now.kind }
+{
+    match (kind, param.kind) {
+        (ParamKind::Channel, ParamKind::Channel) => true,
+        (ParamKind::Value, ParamKind::Value) => true,
+        _ => false,
+    }
+}
+
+/// Adds the argument for a parameter, where it is of this kind and none of its name was there.
+fn bind<'a>(
+    found: &mut Table<'a>,
+    kind: ParamKind,
+    param: &Param,
+    argument: &'a ExprTree,
+) -> Result<(), AllocError>
+    ensures { OnOk result (table.Adds found.old found.new (table.argument_for kind (param.now, argument.now))) }
+{
+    let is_bound = found.contains_key(&param.name);
+    if is_kind(kind, param) & !is_bound {
+        match found.insert(param.name.copy(), argument) {
+            Ok(_) => Ok(()),
+            Err(_) => Err(AllocError),
+        }
+    } else {
+        Ok(())
+    }
+}
+
+/// The arguments for the parameters of this kind.
+fn table_of<'a>(
+    alloc: Global,
+    kind: ParamKind,
+    params: &'a [Param],
+    arguments: &'a [ExprTree],
+) -> Result<Table<'a>, AllocError>
+    ensures { IfOk result (λ found. table.Finds found (table.argument_in kind (zip params.now arguments.now))) }
+{
+    let mut found = IndexMap::new(alloc);
+    for (param, argument) in params.iter().zip(arguments) {
+        bind(&mut found, kind, param, argument)?;
+    }
+    Ok(found)
+}
+
 impl<'a> Call<'a> {
+    ghost use Rattle.hc_modules.specs.Calls.{bindings};
+
+    /// The call of a module with these parameters by these arguments.
+    pub(crate) fn new(
+        alloc: Global,
+        params: &'a [Param],
+        arguments: &'a [ExprTree],
+    ) -> Result<Call<'a>, AllocError>
+        ensures { IfOk result (λ c. bindings c ≡ zip params.now arguments.now) }
+    {
+        let channels = table_of(alloc, ParamKind::Channel, params, arguments)?;
+        let values = table_of(alloc, ParamKind::Value, params, arguments)?;
+        Ok(Call {
+            params,
+            arguments,
+            channels,
+            values,
+        })
+    }
+
     /// The expression that stands for the variable, where it is a value parameter.
     pub(crate) fn value(&self, name: &Name) -> Option<&'a ExprTree>
         ensures { option_map (λ x. x.now) result ≡ spec.value_for (bindings self.now) name.now }
     {
-        let mut bound = self.params.iter().zip(self.arguments);
-        match bound.find(|(param, _)| is_value_of(param, name)) {
-            Some((_, argument)) => Some(argument),
+        match self.values.get(name) {
+            Some(argument) => Some(*argument),
             None => None,
         }
     }
@@ -60,9 +116,8 @@ impl<'a> Call<'a> {
     fn channel_argument(&self, name: &Name) -> Option<&'a ExprTree>
         ensures { option_map (λ x. x.now) result ≡ spec.channel_argument (bindings self.now) name.now }
     {
-        let mut bound = self.params.iter().zip(self.arguments);
-        match bound.find(|(param, _)| is_channel_of(param, name)) {
-            Some((_, argument)) => Some(argument),
+        match self.channels.get(name) {
+            Some(argument) => Some(*argument),
             None => None,
         }
     }

@@ -1,12 +1,12 @@
 //! Expansion.
 
-ghost use Rattle.std.specs.Prelude.{◌≡◌, map, IfOk, IfErr};
+ghost use Rattle.std.specs.Prelude.{◌≡◌, [], map, IfOk, OnOk, IfErr};
 ghost use Rattle.hc_ast.specs.declared.tree.Tree.{Tree as Said};
 ghost use Rattle.hc_modules.specs.declared.flat.Flat.{Flat as Expanded};
 ghost use Rattle.hc_modules.specs.declared.flat.ModuleStop.{ModuleStop as Stop};
 ghost use Rattle.hc_modules.specs.Expansion as spec;
-ghost use Rattle.hc_modules.specs.Found.{judged};
-ghost use Rattle.hc_modules.specs.Refusals.{HasText, IsExpansion, IsRefused, IsStop, IsFlatOrMemory, IsStopOrMemory, module_refusals, process_refusals, call_refusals, size_refusals, refusals};
+ghost use Rattle.hc_modules.specs.Found.{IsFirst};
+ghost use Rattle.hc_modules.specs.Refusals.{IsExpansion, IsRefused, IsStop, IsFlatOrMemory, IsStopOrMemory, module_refusals, process_refusals, call_refusals, size_refusals, refusals};
 ghost use Rattle.hc_modules.specs.Sizes.{all_statements};
 
 use crate::arguments::{no_argument_miscounted, no_argument_misfit, no_unknown_module};
@@ -21,26 +21,21 @@ use hc_ast::{ModuleDef, ProcessDef, Tree};
 use hc_list::List;
 use std::alloc::{AllocError, Global};
 
-/// Whether modules and their parameters have names of their own, and no module writes a value parameter.
-fn check_modules(tree: &Tree) -> Result<(), ModuleStop>
-    ensures { result ≡ judged (module_refusals tree.now) tt }
+/// Modules and their parameters must have names of their own, and no module may write a value parameter.
+fn check_modules(alloc: Global, tree: &Tree) -> Result<(), ModuleStop>
+    ensures ok { OnOk result (module_refusals tree.now ≡ []) }
+    ensures stop { IfErr result (IsFirst (module_refusals tree.now)) }
 {
     let modules = tree.modules.as_slice();
-    if let Err(place) = no_repeated_module(modules) {
-        return Err(ModuleStop::RepeatedModule { place });
-    }
-    if let Err(place) = no_repeated_parameter(modules) {
-        return Err(ModuleStop::RepeatedParameter { place });
-    }
-    if let Err(place) = no_parameter_written(modules) {
-        return Err(ModuleStop::ParameterWritten { place });
-    }
-    Ok(())
+    no_repeated_module(alloc, modules)?;
+    no_repeated_parameter(alloc, modules)?;
+    no_parameter_written(alloc, modules)
 }
 
-/// Whether there are at most 64 processes, with names of their own.
+/// There may be 64 processes, with names of their own.
 fn check_processes(tree: &Tree) -> Result<(), ModuleStop>
-    ensures { result ≡ judged (process_refusals tree.now) tt }
+    ensures ok { OnOk result (process_refusals tree.now ≡ []) }
+    ensures stop { IfErr result (IsFirst (process_refusals tree.now)) }
 {
     let processes = tree.processes.as_slice();
     if let Err(place) = no_process_too_many(processes) {
@@ -52,9 +47,10 @@ fn check_processes(tree: &Tree) -> Result<(), ModuleStop>
     Ok(())
 }
 
-/// Whether calls fit the modules that they name.
+/// Calls must fit the modules that they name.
 fn check_calls(tree: &Tree) -> Result<(), ModuleStop>
-    ensures { result ≡ judged (call_refusals tree.now) tt }
+    ensures ok { OnOk result (call_refusals tree.now ≡ []) }
+    ensures stop { IfErr result (IsFirst (call_refusals tree.now)) }
 {
     let modules = tree.modules.as_slice();
     let processes = tree.processes.as_slice();
@@ -71,8 +67,10 @@ fn check_calls(tree: &Tree) -> Result<(), ModuleStop>
 }
 
 /// How many statements there are after expansion, where they and the nodes of their expressions are few enough.
-fn check_sizes(tree: &Tree) -> Result<u32, ModuleStop>
-    ensures { result ≡ judged (size_refusals tree.now) (all_statements (spec.expansion tree.now)) }
+fn check_sizes(alloc: Global, tree: &Tree) -> Result<u32, ModuleStop>
+    ensures ok { OnOk result (size_refusals tree.now ≡ []) }
+    ensures count { IfOk result (λ count. count ≡ all_statements (spec.expansion tree.now)) }
+    ensures stop { IfErr result (IsFirst (size_refusals tree.now)) }
 {
     let modules = tree.modules.as_slice();
     let processes = tree.processes.as_slice();
@@ -80,26 +78,20 @@ fn check_sizes(tree: &Tree) -> Result<u32, ModuleStop>
         Ok(statements) => statements,
         Err(place) => return Err(ModuleStop::TooManyStatements { place }),
     };
-    if let Err(place) = no_node_too_many(modules, processes) {
-        return Err(ModuleStop::TooManyNodes { place });
-    }
+    no_node_too_many(alloc, modules, processes)?;
     Ok(statements)
 }
 
 /// How many statements there are after expansion, or the first refusal.
-fn check(tree: &Tree) -> Result<u32, ModuleStop>
-    ensures { result ≡ judged (refusals tree.now) (all_statements (spec.expansion tree.now)) }
+fn check(alloc: Global, tree: &Tree) -> Result<u32, ModuleStop>
+    ensures ok { OnOk result (refusals tree.now ≡ []) }
+    ensures count { IfOk result (λ count. count ≡ all_statements (spec.expansion tree.now)) }
+    ensures stop { IfErr result (IsFirst (refusals tree.now)) }
 {
-    if let Err(stop) = check_modules(tree) {
-        return Err(stop);
-    }
-    if let Err(stop) = check_processes(tree) {
-        return Err(stop);
-    }
-    if let Err(stop) = check_calls(tree) {
-        return Err(stop);
-    }
-    check_sizes(tree)
+    check_modules(alloc, tree)?;
+    check_processes(tree)?;
+    check_calls(tree)?;
+    check_sizes(alloc, tree)
 }
 
 /// A process by itself.
@@ -110,7 +102,7 @@ fn flat_process(
 ) -> Result<FlatProcess, AllocError>
     ensures { IfOk result (λ found. found ≡ spec.flat_process modules.now process.now) }
 {
-    let work = work_of(modules, &process.body);
+    let work = work_of(alloc, modules, &process.body)?;
     let body = statements_in(alloc, &work.call, work.statements)?;
     Ok(FlatProcess {
         place: process.place,
@@ -133,11 +125,9 @@ fn flat_processes(
     Ok(found)
 }
 
-/// The processes of a tree that the grammar has, each by itself, or the first refusal: of the first phase that finds
-/// something, what it finds first in the text.
+/// The processes of a tree, each by itself, or the first refusal: of the first phase that finds something, what it finds
+/// first in the text.
 pub fn expand(alloc: Global, tree: &Tree) -> Result<Flat, ModuleStop>
-    requires { HasText tree.now }
-
     // An answer is right.
     ensures expansion { IfOk result (IsExpansion tree.now) }
     ensures refusal { IfErr result (IsStop tree.now) }
@@ -146,15 +136,10 @@ pub fn expand(alloc: Global, tree: &Tree) -> Result<Flat, ModuleStop>
     ensures every_expansion { (flat : Expanded) → IsExpansion tree.now flat → IsFlatOrMemory flat result }
     ensures every_refusal { (stop : Stop) → IsRefused tree.now stop → IsStopOrMemory stop result }
 {
-    let statements = match check(tree) {
-        Ok(statements) => statements,
-        Err(stop) => return Err(stop),
-    };
-    match flat_processes(alloc, tree.modules.as_slice(), tree.processes.as_slice()) {
-        Ok(processes) => Ok(Flat {
-            processes,
-            statements,
-        }),
-        Err(_) => Err(ModuleStop::Memory),
-    }
+    let statements = check(alloc, tree)?;
+    let processes = flat_processes(alloc, tree.modules.as_slice(), tree.processes.as_slice())?;
+    Ok(Flat {
+        processes,
+        statements,
+    })
 }

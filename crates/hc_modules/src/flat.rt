@@ -1,8 +1,11 @@
 //! The processes of a source without its modules.
 
+ghost use Rattle.std.specs.Prelude.{◌≡◌};
+
 use hc_ast::StmtTree;
 use hc_frac::{Name, Place};
 use hc_list::List;
+use std::alloc::AllocError;
 
 /// The processes of a source, in order, and how many statements they have, with those inside others.
 #[derive(Drop)]
@@ -44,4 +47,14 @@ pub enum ModuleStop {
     TooManyNodes { place: Place },
     /// Memory ran out.
     Memory,
+}
+
+impl From<AllocError> for ModuleStop {
+    ghost use Rattle.hc_modules.specs.declared.flat.ModuleStop.TheVariants.{Memory};
+
+    ghost from_gives = { λ _ stop. stop ≡ Memory };
+
+    fn from(_error: AllocError) -> ModuleStop {
+        ModuleStop::Memory
+    }
 }

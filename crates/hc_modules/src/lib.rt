@@ -13,6 +13,7 @@ mod replaced;
 mod sizes;
 mod written;
 
+pub use counts::{cond_nodes_of, nodes_of};
 pub use expanding::expand;
 pub use flat::{Flat, FlatProcess, ModuleStop};
 pub use laws::{expansion_laws, tree_laws};

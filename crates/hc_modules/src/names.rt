@@ -1,25 +1,29 @@
 //! Whether names stand once.
 
-ghost use Rattle.std.specs.Prelude.{◌≡◌};
+ghost use Rattle.std.specs.Prelude.{◌≡◌, [], not, map, IfOk, OnOk, IfErr};
 ghost use Rattle.std.specs.List.{list_any};
+ghost use Rattle.indexmap.specs.IndexSet.{insert_key};
+ghost use Rattle.hc_modules.specs.declared.flat.ModuleStop.TheVariants.{RepeatedModule, RepeatedParameter};
 ghost use Rattle.hc_modules.specs.Bindings.{same_word};
 ghost use Rattle.hc_modules.specs.Finds as spec;
-ghost use Rattle.hc_modules.specs.Found.{first_of};
+ghost use Rattle.hc_modules.specs.Found.{first_of, IsFirst};
 
+use crate::flat::ModuleStop;
 use hc_ast::{ModuleDef, Param, ProcessDef};
 use hc_frac::{Name, Place};
 use hc_limits::MOST_PROCESSES;
+use indexmap::IndexSet;
+use std::alloc::{AllocError, Global};
 
-fn is_module(modules: &[ModuleDef], name: &Name) -> bool
-    ensures { result ≡ list_any (λ m. same_word m.name name.now) modules.now }
+/// Notes a name, and answers whether it is new.
+pub(crate) fn note(names: &mut IndexSet<Name>, name: &Name) -> Result<bool, AllocError>
+    ensures new { IfOk result (λ is_new. is_new ≡ not (list_any (same_word name.now) names.old.keys)) }
+    ensures noted { OnOk result (names.new.keys ≡ insert_key same_word names.old.keys name.now) }
 {
-    modules.iter().any(|module| module.name == *name)
-}
-
-fn is_param(params: &[Param], name: &Name) -> bool
-    ensures { result ≡ list_any (λ p. same_word p.name name.now) params.now }
-{
-    params.iter().any(|param| param.name == *name)
+    match names.insert_full(name.copy()) {
+        Ok((_, is_new)) => Ok(is_new),
+        Err(_) => Err(AllocError),
+    }
 }
 
 fn is_process(processes: &[ProcessDef], name: &Name) -> bool
@@ -28,35 +32,42 @@ fn is_process(processes: &[ProcessDef], name: &Name) -> bool
     processes.iter().any(|process| process.name == *name)
 }
 
-/// An error is the first module with the name of an earlier one.
-pub(crate) fn no_repeated_module(modules: &[ModuleDef]) -> Result<(), Place>
-    ensures { result ≡ first_of (spec.repeated_modules modules.now) }
+/// A module with the name of an earlier one is refused.
+pub(crate) fn no_repeated_module(alloc: Global, modules: &[ModuleDef]) -> Result<(), ModuleStop>
+    ensures ok { OnOk result (spec.repeated_modules modules.now ≡ []) }
+    ensures stop { IfErr result (IsFirst (map RepeatedModule (spec.repeated_modules modules.now))) }
 {
-    for (at, module) in modules.iter().enumerate() {
-        if is_module(&modules[..at], &module.name) {
-            return Err(module.place);
+    let mut names = IndexSet::new(alloc);
+    for module in modules {
+        if !note(&mut names, &module.name)? {
+            return Err(ModuleStop::RepeatedModule {
+                place: module.place,
+            });
         }
     }
     Ok(())
 }
 
-fn no_repeated_param(params: &[Param]) -> Result<(), Place>
-    ensures { result ≡ first_of (spec.repeated_params params.now) }
+fn no_repeated_param(alloc: Global, params: &[Param]) -> Result<(), ModuleStop>
+    ensures ok { OnOk result (spec.repeated_params params.now ≡ []) }
+    ensures stop { IfErr result (IsFirst (map RepeatedParameter (spec.repeated_params params.now))) }
 {
-    for (at, param) in params.iter().enumerate() {
-        if is_param(&params[..at], &param.name) {
-            return Err(param.place);
+    let mut names = IndexSet::new(alloc);
+    for param in params {
+        if !note(&mut names, &param.name)? {
+            return Err(ModuleStop::RepeatedParameter { place: param.place });
         }
     }
     Ok(())
 }
 
-/// An error is the first parameter with the name of an earlier one of its module.
-pub(crate) fn no_repeated_parameter(modules: &[ModuleDef]) -> Result<(), Place>
-    ensures { result ≡ first_of (spec.repeated_parameters modules.now) }
+/// A parameter with the name of an earlier one of its module is refused.
+pub(crate) fn no_repeated_parameter(alloc: Global, modules: &[ModuleDef]) -> Result<(), ModuleStop>
+    ensures ok { OnOk result (spec.repeated_parameters modules.now ≡ []) }
+    ensures stop { IfErr result (IsFirst (map RepeatedParameter (spec.repeated_parameters modules.now))) }
 {
     for module in modules {
-        no_repeated_param(module.params.as_slice())?;
+        no_repeated_param(alloc, module.params.as_slice())?;
     }
     Ok(())
 }

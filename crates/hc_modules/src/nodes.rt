@@ -8,6 +8,7 @@ ghost use Rattle.hc_modules.specs.Replaced as spec;
 ghost use Rattle.hc_modules.specs.Sizes.{nodes, cond_nodes};
 
 use crate::call::Call;
+use crate::counts::nodes_of;
 use hc_ast::{
     BranchTree, CondKind, CondTree, ExprKind, ExprTree, IoTree, RateTree, StmtKind, StmtTree,
 };
@@ -21,21 +22,7 @@ pub(crate) enum NodeCount {
     Beyond(Place),
 }
 
-/// The nodes of an expression, up to the greatest number of 32 bits.
-fn nodes_of(expr: &ExprTree) -> u32
-    ensures { result ≡ min (nodes expr.now) 4294967295 }
-{
-    match &expr.kind {
-        ExprKind::Number(_) | ExprKind::Name(_) => 1,
-        ExprKind::Neg(part) => nodes_of(part.get()).saturating_add(1),
-        ExprKind::Binary(_, left, right) => {
-            let both = nodes_of(left.get()).saturating_add(nodes_of(right.get()));
-            both.saturating_add(1)
-        }
-    }
-}
-
-/// Those that it has in a call.
+/// The nodes that an expression has in a call.
 fn nodes_in(call: &Call, expr: &ExprTree) -> u32
     ensures { result ≡ min (nodes (spec.expr_in (bindings call.now) expr.now)) 4294967295 }
 {

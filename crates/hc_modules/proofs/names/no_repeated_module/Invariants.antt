@@ -1,11 +1,10 @@
-use Rattle.std.proofs.Common.{◌≡◌, take, drop}
-use Rattle.std.specs.List.{list_any}
-use Rattle.hc_modules.specs.Bindings.{same_word}
-use Rattle.hc_modules.specs.Finds.{along, only_if, repeated_modules}
-use Rattle.hc_modules.specs.Found.{first_of}
+use Rattle.std.proofs.Common.{◌≡◌, map, take, drop}
+use Rattle.hc_modules.specs.Finds.{repeated_modules}
+use Rattle.hc_modules.proofs.Repeats.{repeats}
 use Rattle.hc_modules.proofs.names.no_repeated_module.Given as goal
 
-abbrev pub invariant-loop-at : goal.invariant-loop-at
-invariant-loop-at l =
-    first_of (repeated_modules l.modules)
-    ≡ first_of (along (λ before m. only_if (list_any (λ n. same_word n.name m.name) before) m.place) (take l.at l.modules) (drop l.at l.modules))
+abbrev pub invariant-loop-module : goal.invariant-loop-module
+invariant-loop-module l = record {
+  noted : l.names.keys ≡ map (λ x. x.name) (take l.module-index l.modules);
+  found : repeated_modules l.modules ≡ repeats (λ x. x.name) (λ x. x.place) (take l.module-index l.modules) (drop l.module-index l.modules);
+}

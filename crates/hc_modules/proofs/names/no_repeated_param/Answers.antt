@@ -1,17 +1,20 @@
-use Rattle.std.proofs.Common.{sym, ◌∙◌}
-use Rattle.std.specs.List.{list_any}
-use Rattle.hc_modules.specs.Bindings.{same_word}
-use Rattle.hc_modules.proofs.Along.{found_at, passed_at}
+use Rattle.std.proofs.Common.{ap, ◌∙◌, map, slice_get}
+use Rattle.hc_modules.specs.declared.flat.ModuleStop.TheVariants.{RepeatedParameter}
+use Rattle.hc_modules.proofs.Repeats.{passed, noted_more, repeated}
 use Rattle.hc_modules.proofs.names.no_repeated_param.Goals as goal
 
-pub returns-then-is_param : goal.returns-then-is_param
-returns-then-is_param c =
-    found_at (λ before x. list_any (λ y. same_word y.name x.name) before) (λ x. x.place) c.args.params.now c.loop-at.at c.index-params-at.result
-    c.loop-at-test.true c.index-params-at.is c.is_param.result c.is_param.ensures c.if-is_param.true
-    ∙ sym c.loop-at.invariant
+pub returns-then-not-branch-clause-stop : goal.returns-then-not-branch-clause-stop
+returns-then-not-branch-clause-stop c =
+    ap (λ ps. slice_get (map RepeatedParameter ps) 0)
+    (c.loop-param.invariant.found
+    ∙ repeated (λ x. x.name) (λ x. x.place) c.args.params.now c.loop-param.param-index c.param-item.result c.loop-param-test.true c.param-item.is
+    c.loop-param.names.keys c.loop-param.invariant.noted _ (c.in_ok-note.ensures {u = tt}).new (cc))
 
-pub loop-at-preserved : goal.loop-at-preserved
-loop-at-preserved c =
-    c.loop-at.invariant
-    ∙ passed_at (λ before x. list_any (λ y. same_word y.name x.name) before) (λ x. x.place) c.args.params.now c.loop-at.at c.index-params-at.result
-    c.loop-at-test.true c.index-params-at.is c.is_param.result c.is_param.ensures c.if-is_param.false
+pub loop-param-preserved : goal.loop-param-preserved
+loop-param-preserved c = record {
+  noted = noted_more (λ x. x.name) (λ x. x.place) c.args.params.now c.loop-param.param-index c.param-item.result c.loop-param-test.true c.param-item.is
+      c.loop-param.names.keys c.loop-param.invariant.noted _ (c.in_ok-note.ensures {u = tt}).new (cc) _ (c.in_ok-note.ensures {u = tt}).noted;
+  found = c.loop-param.invariant.found
+      ∙ passed (λ x. x.name) (λ x. x.place) c.args.params.now c.loop-param.param-index c.param-item.result c.loop-param-test.true c.param-item.is
+      c.loop-param.names.keys c.loop-param.invariant.noted _ (c.in_ok-note.ensures {u = tt}).new (cc);
+}

@@ -1,8 +1,7 @@
-use Rattle.std.proofs.Common.{◌≡◌, ◌<◌, ◌+◌, arith, ap, sym, ◌∙◌, map, take}
-use Rattle.hc_modules.specs.Calls.{bindings}
+use Rattle.std.proofs.Common.{◌≡◌, ◌<◌, ◌+◌, arith, sym, ◌∙◌, map, take}
 use Rattle.hc_modules.specs.Expansion.{flat_process}
 use Rattle.hc_modules.specs.Sizes.{all_statements, process_statements}
-use Rattle.hc_modules.proofs.Shapes.{total, total-in}
+use Rattle.hc_modules.proofs.Shapes.{total}
 use Rattle.hc_modules.proofs.StatementCount.{statements_before, ends_beyond, goes_on_within}
 use Rattle.hc_modules.proofs.sizes.count_statements.Goals as goal
 
@@ -12,8 +11,7 @@ loop-process-preserved c =
     let ps = c.args.processes.now in
     let i = c.loop-process.process-index in
     let x = c.process-item.result in
-    let here : process_statements (f x) ≡ total c.work_of.result.statements.now =
-    ap total (sym c.work_of.ensures) ∙ total-in (bindings c.work_of.result.call) c.work_of.result.statements.now in
+    let here : total c.uncalled.result.now ≡ process_statements (f x) = c.uncalled.ensures in
     let before = statements_before f ps i x c.loop-process-test.true c.process-item.is in
     let counted : c.saturating_add-counted.result ≡ all_statements (map f (take (i + 1) ps)) =
     omega (
@@ -39,8 +37,7 @@ returns-then-counted-gt-MOST_STATEMENTS c =
     let ps = c.args.processes.now in
     let i = c.loop-process.process-index in
     let x = c.process-item.result in
-    let here : process_statements (f x) ≡ total c.work_of.result.statements.now =
-    ap total (sym c.work_of.ensures) ∙ total-in (bindings c.work_of.result.call) c.work_of.result.statements.now in
+    let here : total c.uncalled.result.now ≡ process_statements (f x) = c.uncalled.ensures in
     let before = statements_before f ps i x c.loop-process-test.true c.process-item.is in
     let many : 10000 < all_statements (map f (take (i + 1) ps)) =
     omega (
