@@ -138,7 +138,9 @@ impl Advance {
             return;
         }
         self.start.copy_into(&mut self.end);
-        let stretch = self.end.stretch(&self.code, self.clock, self.seed, MOST_SILENT_STEPS);
+        let stretch = self
+            .end
+            .stretch(&self.code, self.clock, self.seed, MOST_SILENT_STEPS);
         self.stretch = Some(stretch);
     }
 
