@@ -15,7 +15,7 @@ use Rattle.hc_ast.specs.Conds as co
 use Rattle.hc_table.specs.declared.head.Head as head
 use Rattle.hc_table.specs.declared.head.Head.TheVariants as h
 use Rattle.hc_table.specs.Symbols.{Row}
-use Rattle.hc_table.specs.Rows.{factor, products, sums, one, compare, ands, ors}
+use Rattle.hc_table.specs.Rows.{expr, sums, term, products, factor, cond, ors, both, ands, one, compare}
 use Rattle.hc_table.specs.Table.{number, same, table}
 use Rattle.hc_table.proofs.Tabled.{kinds, kind_at}
 use Rattle.hc_table.proofs.Derive.{kind_of}
@@ -40,8 +40,8 @@ pub makes_factor : (t : Token) (kind : Kind) → t.kind ≡ kind → Makes h.Fac
 makes_factor t k.Number i = λ w v e. (ex.number (t, i), cc)
 makes_factor t k.Name i = λ w v e. (ex.variable (t, i), cc)
 makes_factor t k.Minus i = λ w v (u, (f, e), (u1, e1, e2)). (ex.minus (t, i) f, cc)
-makes_factor t k.OpenRound i = λ w v (u, (f, e), (u1, (ps, e1), (u2, (ss, e2), (b, u3, same_b, e3, e4)))).
-    (ex.brackets (t, i) (ex.sum (ex.product f ps) ss) (of_kind k.CloseRound b same_b), cc)
+makes_factor t k.OpenRound i = λ w v (u, (x, e), (b, u1, same_b, e1, e2)).
+    (ex.brackets (t, i) x (of_kind k.CloseRound b same_b), cc)
 makes_factor t _ i = tt
 
 pub makes_products : (t : Token) (kind : Kind) → t.kind ≡ kind → Makes h.Products t (products kind)
@@ -51,14 +51,28 @@ makes_products t k.Slash i = λ w v (u, (f, e), (u1, e1, (u2, (ps, e2), e3))).
     (ex.multiplied (t, sign.Div, ap product_op i) f ps, cc)
 makes_products t _ i = tt
 
+-- a term begins with its first factor
+termed : (w u v : Spelled) → Phrase h.Factor w u → Chain table kind_of Phrase (Head h.Products ∷ []) u v → Phrase h.Term w v
+termed w u v (f, e) (u1, (ps, e1), e2) = (ex.product f ps, cc)
+
+pub makes_term : (t : Token) (kind : Kind) → t.kind ≡ kind → Makes h.Term t (term kind)
+makes_term t kind i = closes_with table kind_of Phrase h.Factor h.Term t (Head h.Products ∷ []) (factor kind) termed (makes_factor t kind i)
+
 pub makes_sums : (t : Token) (kind : Kind) → t.kind ≡ kind → Makes h.Sums t (sums kind)
-makes_sums t k.Plus i = λ w v (u, (f, e), (u1, (ps, e1), (u2, e2, (u3, (ss, e3), e4)))).
-    (ex.added (t, sign.Add, ap sum_op i) (ex.product f ps) ss, cc)
-makes_sums t k.Minus i = λ w v (u, (f, e), (u1, (ps, e1), (u2, e2, (u3, (ss, e3), e4)))).
-    (ex.added (t, sign.Sub, ap sum_op i) (ex.product f ps) ss, cc)
+makes_sums t k.Plus i = λ w v (u, (x, e), (u1, e1, (u2, (ss, e2), e3))). (ex.added (t, sign.Add, ap sum_op i) x ss, cc)
+makes_sums t k.Minus i = λ w v (u, (x, e), (u1, e1, (u2, (ss, e2), e3))). (ex.added (t, sign.Sub, ap sum_op i) x ss, cc)
 makes_sums t _ i = tt
 
--- a comparison whose left side begins with a factor
+-- an expression with its first factor
+summed : (w u v : Spelled) → Phrase h.Factor w u
+    → Chain table kind_of Phrase (Head h.Products ∷ Head h.Sums ∷ []) u v → Phrase h.Expr w v
+summed w u v (f, e) (u1, (ps, e1), (u2, (ss, e2), e3)) = (ex.sum (ex.product f ps) ss, cc)
+
+pub makes_expr : (t : Token) (kind : Kind) → t.kind ≡ kind → Makes h.Expr t (expr kind)
+makes_expr t kind i =
+    closes_with table kind_of Phrase h.Factor h.Expr t (Head h.Products ∷ Head h.Sums ∷ []) (factor kind) summed (makes_factor t kind i)
+
+-- a comparison with the first factor of its left side
 compared : (w u v : Spelled) → Phrase h.Factor w u
     → Chain table kind_of Phrase (Head h.Products ∷ Head h.Sums ∷ Head h.Compare ∷ []) u v → Phrase h.One w v
 compared w u v (f, e) (u1, (ps, e1), (u2, (ss, e2), (u3, (s, y, e3), e4))) =
@@ -68,31 +82,41 @@ pub makes_one : (t : Token) (kind : Kind) → t.kind ≡ kind → Makes h.One t 
 makes_one t k.Exclamation i = λ w v (u, (o, e), (u1, e1, e2)). (co.negation (t, i) o, cc)
 makes_one t k.True i = λ w v e. (co.always (t, i), cc)
 makes_one t k.False i = λ w v e. (co.never (t, i), cc)
-makes_one t k.OpenSquare i = λ w v (u, (o, e), (u1, (as_, e1), (u2, (os, e2), (b, u3, same_b, e3, e4)))).
-    (co.brackets (t, i) (co.either (co.both o as_) os) (of_kind k.CloseSquare b same_b), cc)
+makes_one t k.OpenSquare i = λ w v (u, (c, e), (b, u1, same_b, e1, e2)).
+    (co.brackets (t, i) c (of_kind k.CloseSquare b same_b), cc)
 makes_one t kind i =
     closes_with table kind_of Phrase h.Factor h.One t (Head h.Products ∷ Head h.Sums ∷ Head h.Compare ∷ []) (factor kind)
     compared (makes_factor t kind i)
 
 pub makes_compare : (t : Token) (kind : Kind) → t.kind ≡ kind → Makes h.Compare t (compare kind)
-makes_compare t k.Less i = λ w v (u, (f, e), (u1, (ps, e1), (u2, (ss, e2), (u3, e3, e4)))).
-    ((t, how.Less, ap comparison i), ex.sum (ex.product f ps) ss, cc)
-makes_compare t k.LessEqual i = λ w v (u, (f, e), (u1, (ps, e1), (u2, (ss, e2), (u3, e3, e4)))).
-    ((t, how.AtMost, ap comparison i), ex.sum (ex.product f ps) ss, cc)
-makes_compare t k.EqualEqual i = λ w v (u, (f, e), (u1, (ps, e1), (u2, (ss, e2), (u3, e3, e4)))).
-    ((t, how.Equal, ap comparison i), ex.sum (ex.product f ps) ss, cc)
-makes_compare t k.NotEqual i = λ w v (u, (f, e), (u1, (ps, e1), (u2, (ss, e2), (u3, e3, e4)))).
-    ((t, how.NotEqual, ap comparison i), ex.sum (ex.product f ps) ss, cc)
-makes_compare t k.GreaterEqual i = λ w v (u, (f, e), (u1, (ps, e1), (u2, (ss, e2), (u3, e3, e4)))).
-    ((t, how.AtLeast, ap comparison i), ex.sum (ex.product f ps) ss, cc)
-makes_compare t k.Greater i = λ w v (u, (f, e), (u1, (ps, e1), (u2, (ss, e2), (u3, e3, e4)))).
-    ((t, how.Greater, ap comparison i), ex.sum (ex.product f ps) ss, cc)
+makes_compare t k.Less i = λ w v (u, (y, e), (u1, e1, e2)). ((t, how.Less, ap comparison i), y, cc)
+makes_compare t k.LessEqual i = λ w v (u, (y, e), (u1, e1, e2)). ((t, how.AtMost, ap comparison i), y, cc)
+makes_compare t k.EqualEqual i = λ w v (u, (y, e), (u1, e1, e2)). ((t, how.Equal, ap comparison i), y, cc)
+makes_compare t k.NotEqual i = λ w v (u, (y, e), (u1, e1, e2)). ((t, how.NotEqual, ap comparison i), y, cc)
+makes_compare t k.GreaterEqual i = λ w v (u, (y, e), (u1, e1, e2)). ((t, how.AtLeast, ap comparison i), y, cc)
+makes_compare t k.Greater i = λ w v (u, (y, e), (u1, e1, e2)). ((t, how.Greater, ap comparison i), y, cc)
 makes_compare t _ i = tt
 
 pub makes_ands : (t : Token) (kind : Kind) → t.kind ≡ kind → Makes h.Ands t (ands kind)
 makes_ands t k.AndAnd i = λ w v (u, (o, e), (u1, e1, (u2, (bs, e2), e3))). (co.and_one (t, i) o bs, cc)
 makes_ands t _ i = tt
 
+-- conditions that `&&` joins begin with the first one
+joined : (w u v : Spelled) → Phrase h.One w u → Chain table kind_of Phrase (Head h.Ands ∷ []) u v → Phrase h.Both w v
+joined w u v (o, e) (u1, (bs, e1), e2) = (co.both o bs, cc)
+
+pub makes_both : (t : Token) (kind : Kind) → t.kind ≡ kind → Makes h.Both t (both kind)
+makes_both t kind i = closes_with table kind_of Phrase h.One h.Both t (Head h.Ands ∷ []) (one kind) joined (makes_one t kind i)
+
 pub makes_ors : (t : Token) (kind : Kind) → t.kind ≡ kind → Makes h.Ors t (ors kind)
-makes_ors t k.BarBar i = λ w v (u, (o, e), (u1, (bs, e1), (u2, e2, (u3, (os, e3), e4)))). (co.or_both (t, i) (co.both o bs) os, cc)
+makes_ors t k.BarBar i = λ w v (u, (b, e), (u1, e1, (u2, (os, e2), e3))). (co.or_both (t, i) b os, cc)
 makes_ors t _ i = tt
+
+-- a condition with its first one
+chosen : (w u v : Spelled) → Phrase h.One w u
+    → Chain table kind_of Phrase (Head h.Ands ∷ Head h.Ors ∷ []) u v → Phrase h.Cond w v
+chosen w u v (o, e) (u1, (bs, e1), (u2, (os, e2), e3)) = (co.either (co.both o bs) os, cc)
+
+pub makes_cond : (t : Token) (kind : Kind) → t.kind ≡ kind → Makes h.Cond t (cond kind)
+makes_cond t kind i =
+    closes_with table kind_of Phrase h.One h.Cond t (Head h.Ands ∷ Head h.Ors ∷ []) (one kind) chosen (makes_one t kind i)

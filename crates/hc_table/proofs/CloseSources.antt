@@ -21,10 +21,10 @@ use Rattle.hc_table.specs.Rows.{source, param_then, params, more_params, process
 use Rattle.hc_table.specs.Table.{table, entry, empties, start}
 use Rattle.hc_table.proofs.Derive.{D, kind_of}
 use Rattle.hc_table.proofs.Phrase.{Phrase, body_rest, BodyRest, own, called}
-use Rattle.hc_table.proofs.CloseExprs.{of_kind, Makes, makes_factor, makes_products, makes_sums, makes_one, makes_compare, makes_ands, makes_ors}
-use Rattle.hc_table.proofs.CloseStmts.{makes_stmt, makes_named, makes_else, makes_after, makes_branch, makes_meet, makes_branches, makes_rate, makes_rates, makes_interrupt, makes_more}
+use Rattle.hc_table.proofs.CloseExprs.{of_kind, Makes, makes_expr, makes_sums, makes_term, makes_products, makes_factor, makes_cond, makes_ors, makes_both, makes_ands, makes_one, makes_compare}
+use Rattle.hc_table.proofs.CloseStmts.{makes_seq, makes_stmt, makes_named, makes_else, makes_after, makes_branch, makes_meet, makes_branches, makes_rate, makes_rates, makes_interrupt, makes_more}
 
--- an argument that begins with a factor
+-- arguments begin with the first factor of the first one
 argued : (w u v : Spelled) → Phrase h.Factor w u
     → Chain table kind_of Phrase (Head h.Products ∷ Head h.Sums ∷ Mark m.Argument ∷ Head h.MoreArguments ∷ []) u v → Phrase h.Arguments w v
 argued w u v (f, e) (u1, (ps, e1), (u2, (ss, e2), (u3, e3, (u4, (es, b, e4), e5)))) =
@@ -64,7 +64,7 @@ module _ (t : Token) where
                   u5,
                   same_d,
                   e5,
-                  (u6, e6, (u7, (y, e7), (u8, (ys, e8), (f, u9, same_f, e9, (l, u10, same_l, e10, (u11, e11, (u12, (more, e12), e13))))))),
+                  (u6, e6, (u7, (y, ys, e7), (f, u8, same_f, e8, (l, u9, same_l, e9, (u10, e10, (u11, (more, e11), e12)))))),
                 ),
               ),
             ),
@@ -104,7 +104,7 @@ module _ (t : Token) where
   makes_process _ i = tt
 
   makes_process_body : (kind : Kind) → t.kind ≡ kind → Makes h.ProcessBody t (process_body kind)
-  makes_process_body k.OpenRound i = λ w v (u, e, (u1, (y, e1), (u2, (ys, e2), (b, u3, same_b, e3, (u4, e4, e5))))).
+  makes_process_body k.OpenRound i = λ w v (u, e, (u1, (y, ys, e1), (b, u2, same_b, e2, (u3, e3, e4)))).
       (own (t, i) (st.seq y ys) (of_kind k.CloseRound b same_b), cc)
   makes_process_body k.Name i = λ w v (a, u, same_a, e, (u1, e1, (u2, e2, (u3, (es, b, e3), (u4, e4, e5))))).
       (called (t, i) (of_kind k.OpenRound a same_a) es b, cc)
@@ -123,8 +123,8 @@ module _ (t : Token) where
 
   makes_more_arguments : (kind : Kind) → t.kind ≡ kind → Makes h.MoreArguments t (more_arguments kind)
   makes_more_arguments k.CloseRound i = λ w v e. (so.no_argument, (t, i), cc)
-  makes_more_arguments k.Comma i = λ w v (u, e, (u1, (f, e1), (u2, (ps, e2), (u3, (ss, e3), (u4, e4, (u5, (es, b, e5), e6)))))).
-      (so.next_argument (t, i) (ex.sum (ex.product f ps) ss) es, b, cc)
+  makes_more_arguments k.Comma i = λ w v (u, e, (u1, (x, e1), (u2, e2, (u3, (es, b, e3), e4)))).
+      (so.next_argument (t, i) x es, b, cc)
   makes_more_arguments _ i = tt
 
 row : (x : head.Head) (t : Token) → Makes x t (entry x t.kind)
@@ -137,6 +137,7 @@ row h.ProcessBody t = makes_process_body t t.kind refl
 row h.Processes t = makes_processes t t.kind refl
 row h.Arguments t = makes_arguments t t.kind refl
 row h.MoreArguments t = makes_more_arguments t t.kind refl
+row h.Seq t = makes_seq t t.kind refl
 row h.Stmt t = makes_stmt t t.kind refl
 row h.Named t = makes_named t t.kind refl
 row h.Else t = makes_else t t.kind refl
@@ -148,13 +149,17 @@ row h.Rate t = makes_rate t t.kind refl
 row h.Rates t = makes_rates t t.kind refl
 row h.Interrupt t = makes_interrupt t t.kind refl
 row h.More t = makes_more t t.kind refl
-row h.Factor t = makes_factor t t.kind refl
-row h.Products t = makes_products t t.kind refl
+row h.Expr t = makes_expr t t.kind refl
 row h.Sums t = makes_sums t t.kind refl
+row h.Term t = makes_term t t.kind refl
+row h.Products t = makes_products t t.kind refl
+row h.Factor t = makes_factor t t.kind refl
+row h.Cond t = makes_cond t t.kind refl
+row h.Ors t = makes_ors t t.kind refl
+row h.Both t = makes_both t t.kind refl
+row h.Ands t = makes_ands t t.kind refl
 row h.One t = makes_one t t.kind refl
 row h.Compare t = makes_compare t t.kind refl
-row h.Ands t = makes_ands t t.kind refl
-row h.Ors t = makes_ors t t.kind refl
 
 nothing : (x : head.Head) (w : Spelled) → empties x ≡ true → Phrase x w w
 nothing h.Interrupt w e = (st.none, refl)

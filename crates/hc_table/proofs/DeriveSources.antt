@@ -1,10 +1,11 @@
 -- Each text of the grammar derives in the table: whole sources.
-use Rattle.std.proofs.Common.{◌≡◌, refl, ap, List, [], ◌∷◌, Some}
+use Rattle.std.proofs.Common.{◌≡◌, refl, ap, List, [], ◌∷◌, ◌++◌, Some}
 use Rattle.hc_grammar.specs.declared.symbol.Symbol.TheVariants.{Token, Head, Mark}
-use Rattle.hc_grammar.specs.Table.{Takes}
+use Rattle.hc_grammar.specs.Table.{Takes, with_more}
 use Rattle.hc_grammar.specs.Derives.{done, token, mark, takes}
 use Rattle.hc_token.specs.declared.kind.Kind.{Kind}
 use Rattle.hc_token.specs.declared.kind.Kind.TheVariants as k
+use Rattle.hc_ast.specs.declared.role.Role.{Role}
 use Rattle.hc_ast.specs.declared.role.Role.TheVariants as r
 use Rattle.hc_ast.specs.declared.role.Mark.TheVariants as m
 use Rattle.hc_ast.specs.declared.tree.ParamKind.{ParamKind}
@@ -14,9 +15,9 @@ use Rattle.hc_ast.specs.Sources as g
 use Rattle.hc_ast.specs.SourceRoles as spell
 use Rattle.hc_table.specs.declared.head.Head.TheVariants as h
 use Rattle.hc_table.specs.Symbols.{Rule}
-use Rattle.hc_table.specs.Rows.{source, param_then, params, more_params, process, process_body, processes, arguments, more_arguments}
+use Rattle.hc_table.specs.Rows.{source, param_then, params, more_params, process, process_body, processes, factor, arguments, more_arguments}
 use Rattle.hc_table.specs.Table.{start}
-use Rattle.hc_table.proofs.Derive.{D, is, expr_text, products_text, sums_text, factor_text}
+use Rattle.hc_table.proofs.Derive.{D, is, begins, expr_text, sums_text, products_text, factor_text}
 use Rattle.hc_table.proofs.DeriveStmts.{seq_text}
 
 param_row : (kind : Kind) (what : ParamKind) → g.param_kind kind ≡ Some what
@@ -55,13 +56,14 @@ more_arguments_text : (es : g.MoreArguments) {ss : List Rule} {w : Spelled} → 
 more_arguments_text g.no_argument d = d
 more_arguments_text (g.next_argument t e es) d = takes (ap more_arguments t.1) (mark (expr_text e (mark (more_arguments_text es d))))
 
--- an argument right behind `(`, where its first factor names the phrase
-factor_argument : (f : ex.Factor) {ss : List Rule} {w : Spelled}
-    → D (Head h.Products ∷ Head h.Sums ∷ Mark m.Argument ∷ Head h.MoreArguments ∷ ss) w → D (Head h.Arguments ∷ ss) (ex.factor f w)
-factor_argument (ex.minus t f) d = takes (ap arguments t.1) (factor_text f (mark d))
-factor_argument (ex.number t) d = takes (ap arguments t.1) d
-factor_argument (ex.variable t) d = takes (ap arguments t.1) d
-factor_argument (ex.brackets a e b) d = takes (ap arguments a.1) (expr_text e (token (is k.CloseRound b refl) d))
+-- arguments begin as the first factor of their first one
+argument_row : (kind : Kind) (role : Role) (p : List Rule) → factor kind ≡ Takes role p
+    → arguments kind ≡ Takes role (p ++ Head h.Products ∷ Head h.Sums ∷ Mark m.Argument ∷ Head h.MoreArguments ∷ [])
+argument_row k.Number role p e = ap (with_more (Head h.Products ∷ Head h.Sums ∷ Mark m.Argument ∷ Head h.MoreArguments ∷ [])) e
+argument_row k.Name role p e = ap (with_more (Head h.Products ∷ Head h.Sums ∷ Mark m.Argument ∷ Head h.MoreArguments ∷ [])) e
+argument_row k.Minus role p e = ap (with_more (Head h.Products ∷ Head h.Sums ∷ Mark m.Argument ∷ Head h.MoreArguments ∷ [])) e
+argument_row k.OpenRound role p e = ap (with_more (Head h.Products ∷ Head h.Sums ∷ Mark m.Argument ∷ Head h.MoreArguments ∷ [])) e
+argument_row _ role p e = absurd (cc)
 
 process_text : (x : g.Process) {ss : List Rule} {w : Spelled} → D ss w → D (Head h.Process ∷ ss) (spell.process x w)
 process_text (g.inline x t a y b) d =
@@ -71,8 +73,10 @@ process_text (g.call x t y a g.without b) d =
     (token (is k.OpenRound a refl) (mark (mark (takes (ap arguments b.1) (mark d)))))))
 process_text (g.call x t y a (g.with (ex.sum (ex.product f fs) ts) es) b) d =
     takes (ap process x.1) (token (is k.Equal t refl) (takes (ap process_body y.1)
-    (token (is k.OpenRound a refl) (mark (mark (factor_argument f (products_text fs (sums_text ts
-    (mark (more_arguments_text es (takes (ap more_arguments b.1) (mark d))))))))))))
+    (token (is k.OpenRound a refl) (mark (mark
+    (begins h.Factor h.Arguments (Head h.Products ∷ Head h.Sums ∷ Mark m.Argument ∷ Head h.MoreArguments ∷ []) refl argument_row
+    (factor_text f (products_text fs (sums_text ts
+    (mark (more_arguments_text es (takes (ap more_arguments b.1) (mark d)))))))))))))
 
 processes_text : (xs : g.Processes) {ss : List Rule} {w : Spelled} → D (Head h.Processes ∷ ss) w
     → D (Head h.Processes ∷ ss) (spell.processes xs w)

@@ -1,6 +1,7 @@
 -- Each text of the grammar derives in the table: statements.
-use Rattle.std.proofs.Common.{refl, ap, List, ◌∷◌}
+use Rattle.std.proofs.Common.{refl, ap, List, [], ◌∷◌}
 use Rattle.hc_grammar.specs.declared.symbol.Symbol.TheVariants.{Head, Mark}
+use Rattle.hc_grammar.specs.Table.{with_more}
 use Rattle.hc_grammar.specs.Derives.{token, mark, takes, skips}
 use Rattle.hc_token.specs.declared.kind.Kind.TheVariants as k
 use Rattle.hc_ast.specs.declared.role.Mark.TheVariants as m
@@ -10,7 +11,7 @@ use Rattle.hc_ast.specs.StmtRoles as spell
 use Rattle.hc_table.specs.declared.head.Head.TheVariants as h
 use Rattle.hc_table.specs.Symbols.{Rule, a_seq}
 use Rattle.hc_table.specs.Rows.{stmt, named, else_part, after, branch, meet, branches, rate, rates, interrupt, more}
-use Rattle.hc_table.proofs.Derive.{D, is, expr_text, cond_text}
+use Rattle.hc_table.proofs.Derive.{D, is, begins, expr_text, cond_text}
 
 -- a communication that begins a statement, and one that begins a branch
 io_stmt : (i : g.Io) {ss : List Rule} {w : Spelled} → D (Mark m.Io ∷ ss) w → D (Head h.Stmt ∷ ss) (spell.io i w)
@@ -26,7 +27,8 @@ rates_text (g.next_rate t x xs) d = takes (ap rates t.1) (rate_text x (rates_tex
 
 mutual
   pub seq_text : (x : g.Seq) {ss : List Rule} {w : Spelled} → D ss w → D (a_seq ss) (spell.seq x w)
-  seq_text (g.seq x xs) d = mark (stmt_text x (more_text xs d))
+  seq_text (g.seq x xs) d =
+      mark (begins h.Stmt h.Seq (Head h.More ∷ []) refl (λ kind role p e. ap (with_more (Head h.More ∷ [])) e) (stmt_text x (more_text xs d)))
 
   pub more_text : (xs : g.More) {ss : List Rule} {w : Spelled} → D ss w → D (Head h.More ∷ ss) (spell.more xs w)
   more_text g.no_more d = skips refl d

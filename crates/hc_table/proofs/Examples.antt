@@ -34,8 +34,17 @@ module _ (ss : List Rule) (w : Spelled) (d : D ss w) where
   an_expression : Some_text (an_expr ss)
   an_expression = (_, takes {t = a k.Number} refl (skips refl (skips refl d)))
 
+  a_term : Some_text (Head h.Term ∷ ss)
+  a_term = (_, takes {t = a k.Number} refl (skips refl d))
+
   a_condition : Some_text (a_cond ss)
   a_condition = (_, takes {t = a k.True} refl (skips refl (skips refl d)))
+
+  a_both : Some_text (Head h.Both ∷ ss)
+  a_both = (_, takes {t = a k.True} refl (skips refl d))
+
+  some_statements : Some_text (Head h.Seq ∷ ss)
+  some_statements = (_, takes {t = a k.Skip} refl (mark (skips refl d)))
 
   a_sequence : Some_text (a_seq ss)
   a_sequence = (_, mark (takes {t = a k.Skip} refl (mark (skips refl d))))
@@ -58,6 +67,11 @@ a_phrase h.ProcessBody ss w d =
 a_phrase h.Processes ss w d = (_, takes {t = a k.EndSystem} refl d)
 a_phrase h.Arguments ss w d = (_, takes {t = a k.CloseRound} refl d)
 a_phrase h.MoreArguments ss w d = (_, takes {t = a k.CloseRound} refl d)
+a_phrase h.Seq ss w d = some_statements ss w d
+a_phrase h.Expr ss w d = an_expression ss w d
+a_phrase h.Term ss w d = a_term ss w d
+a_phrase h.Cond ss w d = a_condition ss w d
+a_phrase h.Both ss w d = a_both ss w d
 a_phrase h.Stmt ss w d = (_, takes {t = a k.Skip} refl (mark d))
 a_phrase h.Named ss w d = (_, takes {t = a k.Question} refl (token {t = a k.Name} refl (mark (mark d))))
 a_phrase h.Else ss w d = (_, takes {t = a k.EndIf} refl (mark d))

@@ -1,5 +1,5 @@
 -- The source language can be read token by token, and its texts are those of the published grammar.
-use Rattle.std.proofs.Common.{◌≡◌, refl, sym, subst}
+use Rattle.std.proofs.Common.{refl, sym, subst}
 use Rattle.hc_grammar.specs.Reader.{Walk}
 use Rattle.hc_grammar.specs.Language.{IsReadable}
 use Rattle.hc_grammar.proofs.Settings.{Setting}

@@ -1,5 +1,5 @@
 -- The table keeps its laws: each is computed.
-use Rattle.std.proofs.Common.{◌≡◌, refl, true, false, List, [], ◌∷◌, Some}
+use Rattle.std.proofs.Common.{◌≡◌, refl, ℕ, true, false, List, [], ◌∷◌, Some}
 use Rattle.std.specs.List.{slice_get, list_all}
 use Rattle.hc_grammar.specs.Ll1.{fits, IsLl1}
 use Rattle.hc_grammar.specs.Ends.{closes_by, EndsBy}
@@ -8,7 +8,7 @@ use Rattle.hc_token.specs.declared.kind.Kind.{Kind}
 use Rattle.hc_token.specs.declared.kind.Kind.TheVariants as k
 use Rattle.hc_table.specs.declared.head.Head.{Head}
 use Rattle.hc_table.specs.declared.head.Head.TheVariants as h
-use Rattle.hc_table.specs.Table.{number, head_number, table, start}
+use Rattle.hc_table.specs.Table.{number, table, start}
 
 -- all kinds, and all phrases
 abbrev pub kinds : List Kind
@@ -24,9 +24,43 @@ kinds =
 abbrev pub heads : List Head
 heads =
     h.Source ∷ h.Params ∷ h.MoreParams ∷ h.Param ∷ h.Process ∷ h.ProcessBody ∷ h.Processes ∷ h.Arguments
-    ∷ h.MoreArguments ∷ h.Stmt ∷ h.Named ∷ h.Else ∷ h.After ∷ h.Branch ∷ h.Meet ∷ h.Branches
-    ∷ h.Rate ∷ h.Rates ∷ h.Interrupt ∷ h.More ∷ h.Factor ∷ h.Products ∷ h.Sums ∷ h.One
-    ∷ h.Compare ∷ h.Ands ∷ h.Ors ∷ []
+    ∷ h.MoreArguments ∷ h.Seq ∷ h.Stmt ∷ h.Named ∷ h.Else ∷ h.After ∷ h.Branch ∷ h.Meet
+    ∷ h.Branches ∷ h.Rate ∷ h.Rates ∷ h.Interrupt ∷ h.More ∷ h.Expr ∷ h.Sums ∷ h.Term
+    ∷ h.Products ∷ h.Factor ∷ h.Cond ∷ h.Ors ∷ h.Both ∷ h.Ands ∷ h.One ∷ h.Compare ∷ []
+
+abbrev head_number : Head → ℕ
+head_number h.Source = 0
+head_number h.Params = 1
+head_number h.MoreParams = 2
+head_number h.Param = 3
+head_number h.Process = 4
+head_number h.ProcessBody = 5
+head_number h.Processes = 6
+head_number h.Arguments = 7
+head_number h.MoreArguments = 8
+head_number h.Seq = 9
+head_number h.Stmt = 10
+head_number h.Named = 11
+head_number h.Else = 12
+head_number h.After = 13
+head_number h.Branch = 14
+head_number h.Meet = 15
+head_number h.Branches = 16
+head_number h.Rate = 17
+head_number h.Rates = 18
+head_number h.Interrupt = 19
+head_number h.More = 20
+head_number h.Expr = 21
+head_number h.Sums = 22
+head_number h.Term = 23
+head_number h.Products = 24
+head_number h.Factor = 25
+head_number h.Cond = 26
+head_number h.Ors = 27
+head_number h.Both = 28
+head_number h.Ands = 29
+head_number h.One = 30
+head_number h.Compare = 31
 
 pub kind_at : (kind : Kind) → slice_get kinds (number kind) ≡ Some kind
 kind_at k.Module = refl

@@ -9,6 +9,8 @@ use Rattle.hc_ast.specs.declared.role.Mark.TheVariants as m
 use Rattle.hc_table.specs.declared.head.Head.TheVariants as h
 use Rattle.hc_table.specs.Symbols.{Rule, Row, an_expr, a_cond, a_seq}
 
+-- source = { module } "system" process { "||" process } "endsystem"
+-- module = "module" NAME "(" [ param { "," param } ] ")" ":" "begin" seq "end" "endmodule"
 abbrev pub source : Kind → Row
 source k.Module = Takes r.Plain (Token k.Name r.Keep ∷ Token k.OpenRound r.Plain ∷ Mark m.Params ∷ Head h.Params
     ∷ Token k.Colon r.Plain ∷ Token k.Begin r.Plain
@@ -16,35 +18,41 @@ source k.Module = Takes r.Plain (Token k.Name r.Keep ∷ Token k.OpenRound r.Pla
 source k.System = Takes r.Plain (Head h.Process ∷ Head h.Processes ∷ [])
 source _ = Refuses
 
--- a parameter, in front of what follows it
+-- param = ( "ch" | "val" ) NAME, in front of what follows it
 abbrev pub param_then : List Rule → Kind → Row
 param_then p k.Ch = Takes r.Keep (Token k.Name r.Keep ∷ Mark m.Param ∷ p)
 param_then p k.Val = Takes r.Keep (Token k.Name r.Keep ∷ Mark m.Param ∷ p)
 param_then p _ = Refuses
 
+-- [ param { "," param } ] ")"
 abbrev pub params : Kind → Row
 params k.CloseRound = Takes r.Plain []
 params kind = param_then (Head h.MoreParams ∷ []) kind
 
+-- { "," param } ")"
 abbrev pub more_params : Kind → Row
 more_params k.CloseRound = Takes r.Plain []
 more_params k.Comma = Takes r.Plain (Head h.Param ∷ Head h.MoreParams ∷ [])
 more_params _ = Refuses
 
+-- process = NAME "=" ( "(" seq ")" | NAME "(" [ expr { "," expr } ] ")" )
 abbrev pub process : Kind → Row
 process k.Name = Takes r.Keep (Token k.Equal r.Plain ∷ Head h.ProcessBody ∷ [])
 process _ = Refuses
 
+-- "(" seq ")" | NAME "(" [ expr { "," expr } ] ")"
 abbrev pub process_body : Kind → Row
 process_body k.OpenRound = Takes r.Plain (a_seq (Token k.CloseRound r.Plain ∷ Mark m.Inline ∷ []))
 process_body k.Name = Takes r.Keep (Token k.OpenRound r.Plain ∷ Mark m.Arguments ∷ Mark m.Fresh ∷ Head h.Arguments ∷ Mark m.Call ∷ [])
 process_body _ = Refuses
 
+-- { "||" process } "endsystem"
 abbrev pub processes : Kind → Row
 processes k.BarBar = Takes r.Plain (Head h.Process ∷ Head h.Processes ∷ [])
 processes k.EndSystem = Takes r.Plain []
 processes _ = Refuses
 
+-- factor = "-" factor | NUMBER | NAME | "(" expr ")"
 abbrev pub factor : Kind → Row
 factor k.Number = Takes r.Leaf []
 factor k.Name = Takes r.Leaf []
@@ -52,10 +60,20 @@ factor k.Minus = Takes r.Prefix (Head h.Factor ∷ Mark m.Negate ∷ [])
 factor k.OpenRound = Takes r.Open (an_expr (Token k.CloseRound r.Close ∷ []))
 factor _ = Refuses
 
+-- term = factor { ( "*" | "/" ) factor }
+abbrev pub term : Kind → Row
+term kind = with_more (Head h.Products ∷ []) (factor kind)
+
+-- expr = term { ( "+" | "-" ) term }
+abbrev pub expr : Kind → Row
+expr kind = with_more (Head h.Products ∷ Head h.Sums ∷ []) (factor kind)
+
+-- [ expr { "," expr } ] ")"
 abbrev pub arguments : Kind → Row
 arguments k.CloseRound = Takes r.Plain []
 arguments kind = with_more (Head h.Products ∷ Head h.Sums ∷ Mark m.Argument ∷ Head h.MoreArguments ∷ []) (factor kind)
 
+-- { "," expr } ")"
 abbrev pub more_arguments : Kind → Row
 more_arguments k.CloseRound = Takes r.Plain []
 more_arguments k.Comma = Takes r.Plain (Mark m.Fresh ∷ an_expr (Mark m.Argument ∷ Head h.MoreArguments ∷ []))
@@ -65,6 +83,9 @@ more_arguments _ = Refuses
 abbrev pub in_brackets : List Rule → List Rule
 in_brackets p = Token k.OpenRound r.Plain ∷ Mark m.Fresh ∷ an_expr (Token k.CloseRound r.Plain ∷ p)
 
+-- stmt = "skip" | NAME ":=" expr | "wait" "(" expr ")" | "log" "(" expr ")" | io | "if" cond "then" seq [ "else" seq ] "endif"
+--      | "(" seq ")" ( "++" "(" seq ")" | "**" | "{" cond "}" "**" ) | choice | "<" rate { "," rate } "&" cond ">" [ "|>" choice ]
+-- choice = "[]" "(" branch { "," branch } ")"
 abbrev pub stmt : Kind → Row
 stmt k.Skip = Takes r.Keep (Mark m.Skip ∷ [])
 stmt k.Name = Takes r.Keep (Head h.Named ∷ [])
@@ -76,70 +97,95 @@ stmt k.EmptySquare = Takes r.Keep (Token k.OpenRound r.Open ∷ Mark m.Branches 
 stmt k.Less = Takes r.Begin (Mark m.Rates ∷ Head h.Rate ∷ Head h.Rates ∷ Head h.Interrupt ∷ Mark m.Evolve ∷ [])
 stmt _ = Refuses
 
+-- seq = stmt { ";" stmt }
+abbrev pub seq : Kind → Row
+seq kind = with_more (Head h.More ∷ []) (stmt kind)
+
+-- a statement behind its NAME: ":=" expr | "!" expr | "?" NAME
 abbrev pub named : Kind → Row
 named k.ColonEqual = Takes r.Plain (Mark m.Fresh ∷ an_expr (Mark m.Assign ∷ []))
 named k.Exclamation = Takes r.Plain (Mark m.Fresh ∷ an_expr (Mark m.Send ∷ Mark m.Io ∷ []))
 named k.Question = Takes r.Plain (Token k.Name r.Keep ∷ Mark m.Receive ∷ Mark m.Io ∷ [])
 named _ = Refuses
 
+-- [ "else" seq ] "endif"
 abbrev pub else_part : Kind → Row
 else_part k.EndIf = Takes r.Close (Mark m.If ∷ [])
 else_part k.Else = Takes r.Plain (a_seq (Token k.EndIf r.Close ∷ Mark m.Else ∷ []))
 else_part _ = Refuses
 
+-- "++" "(" seq ")" | "**" | "{" cond "}" "**"
 abbrev pub after : Kind → Row
 after k.StarStar = Takes r.Plain (Mark m.Forever ∷ [])
 after k.PlusPlus = Takes r.Plain (Token k.OpenRound r.Open ∷ a_seq (Token k.CloseRound r.Close ∷ Mark m.Pick ∷ []))
 after k.OpenCurly = Takes r.Open (Mark m.Fresh ∷ a_cond (Token k.CloseCurly r.Close ∷ Token k.StarStar r.Plain ∷ Mark m.Loop ∷ []))
 after _ = Refuses
 
+-- branch = io "-->" seq
 abbrev pub branch : Kind → Row
 branch k.Name = Takes r.Keep (Head h.Meet ∷ Token k.Arrow r.Plain ∷ a_seq (Mark m.Branch ∷ []))
 branch _ = Refuses
 
+-- io behind its NAME: "!" expr | "?" NAME
 abbrev pub meet : Kind → Row
 meet k.Exclamation = Takes r.Plain (Mark m.Fresh ∷ an_expr (Mark m.Send ∷ []))
 meet k.Question = Takes r.Plain (Token k.Name r.Keep ∷ Mark m.Receive ∷ [])
 meet _ = Refuses
 
+-- { "," branch } ")"
 abbrev pub branches : Kind → Row
 branches k.CloseRound = Takes r.Close []
 branches k.Comma = Takes r.Plain (Head h.Branch ∷ Head h.Branches ∷ [])
 branches _ = Refuses
 
+-- rate = RATE "=" expr
 abbrev pub rate : Kind → Row
 rate k.Rate = Takes r.Keep (Token k.Equal r.Plain ∷ Mark m.Fresh ∷ an_expr (Mark m.Rate ∷ []))
 rate _ = Refuses
 
+-- { "," rate } "&" cond ">"
 abbrev pub rates : Kind → Row
 rates k.Comma = Takes r.Plain (Head h.Rate ∷ Head h.Rates ∷ [])
 rates k.And = Takes r.Plain (Mark m.Fresh ∷ a_cond (Token k.Greater r.Close ∷ []))
 rates _ = Refuses
 
+-- [ "|>" choice ]
 abbrev pub interrupt : Kind → Row
 interrupt k.BarGreater = Takes r.Plain (Token k.EmptySquare r.Plain ∷ Token k.OpenRound r.Open ∷ Head h.Branch ∷ Head h.Branches ∷ [])
 interrupt _ = Skips
 
+-- { ";" stmt }
 abbrev pub more : Kind → Row
 more k.Semicolon = Takes r.Plain (Head h.Stmt ∷ Head h.More ∷ [])
 more _ = Skips
 
+-- { ( "*" | "/" ) factor }
 abbrev pub products : Kind → Row
 products k.Star = Takes r.Operator (Head h.Factor ∷ Mark m.Binary ∷ Head h.Products ∷ [])
 products k.Slash = Takes r.Operator (Head h.Factor ∷ Mark m.Binary ∷ Head h.Products ∷ [])
 products _ = Skips
 
+-- { ( "+" | "-" ) term }
 abbrev pub sums : Kind → Row
-sums k.Plus = Takes r.Operator (Head h.Factor ∷ Head h.Products ∷ Mark m.Binary ∷ Head h.Sums ∷ [])
-sums k.Minus = Takes r.Operator (Head h.Factor ∷ Head h.Products ∷ Mark m.Binary ∷ Head h.Sums ∷ [])
+sums k.Plus = Takes r.Operator (Head h.Term ∷ Mark m.Binary ∷ Head h.Sums ∷ [])
+sums k.Minus = Takes r.Operator (Head h.Term ∷ Mark m.Binary ∷ Head h.Sums ∷ [])
 sums _ = Skips
 
+-- one = "!" one | "true" | "false" | "[" cond "]" | expr ( "<" | "<=" | "==" | "!=" | ">=" | ">" ) expr
 abbrev pub one : Kind → Row
 one k.Exclamation = Takes r.Prefix (Head h.One ∷ Mark m.Not ∷ [])
 one k.True = Takes r.Leaf []
 one k.False = Takes r.Leaf []
 one k.OpenSquare = Takes r.Open (a_cond (Token k.CloseSquare r.Close ∷ []))
 one kind = with_more (Head h.Products ∷ Head h.Sums ∷ Head h.Compare ∷ []) (factor kind)
+
+-- both = one { "&&" one }
+abbrev pub both : Kind → Row
+both kind = with_more (Head h.Ands ∷ []) (one kind)
+
+-- cond = both { "||" both }
+abbrev pub cond : Kind → Row
+cond kind = with_more (Head h.Ands ∷ Head h.Ors ∷ []) (one kind)
 
 -- the right side of a comparison, behind its sign
 abbrev pub right_side : Row
@@ -154,10 +200,12 @@ compare k.GreaterEqual = right_side
 compare k.Greater = right_side
 compare _ = Refuses
 
+-- { "&&" one }
 abbrev pub ands : Kind → Row
 ands k.AndAnd = Takes r.Operator (Head h.One ∷ Mark m.And ∷ Head h.Ands ∷ [])
 ands _ = Skips
 
+-- { "||" both }
 abbrev pub ors : Kind → Row
-ors k.BarBar = Takes r.Operator (Head h.One ∷ Head h.Ands ∷ Mark m.Or ∷ Head h.Ors ∷ [])
+ors k.BarBar = Takes r.Operator (Head h.Both ∷ Mark m.Or ∷ Head h.Ors ∷ [])
 ors _ = Skips

@@ -18,10 +18,10 @@ Row = table.Entry Kind head.Head Role mark.Mark
 
 -- an expression, a condition and a sequence of statements, each in front of what follows it
 abbrev pub an_expr : List Rule → List Rule
-an_expr p = Head h.Factor ∷ Head h.Products ∷ Head h.Sums ∷ p
+an_expr p = Head h.Expr ∷ p
 
 abbrev pub a_cond : List Rule → List Rule
-a_cond p = Head h.One ∷ Head h.Ands ∷ Head h.Ors ∷ p
+a_cond p = Head h.Cond ∷ p
 
 abbrev pub a_seq : List Rule → List Rule
-a_seq p = Mark m.Body ∷ Head h.Stmt ∷ Head h.More ∷ p
+a_seq p = Mark m.Body ∷ Head h.Seq ∷ p

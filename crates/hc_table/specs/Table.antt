@@ -10,7 +10,7 @@ use Rattle.hc_ast.specs.declared.role.Mark.{Mark}
 use Rattle.hc_table.specs.declared.head.Head.{Head}
 use Rattle.hc_table.specs.declared.head.Head.TheVariants as h
 use Rattle.hc_table.specs.Symbols.{Rule, Row}
-use Rattle.hc_table.specs.Rows.{source, params, more_params, param_then, process, process_body, processes, arguments, more_arguments, stmt, named, else_part, after, branch, meet, branches, rate, rates, interrupt, more, factor, products, sums, one, compare, ands, ors}
+use Rattle.hc_table.specs.Rows.{source, params, more_params, param_then, process, process_body, processes, arguments, more_arguments, seq, stmt, named, else_part, after, branch, meet, branches, rate, rates, interrupt, more, expr, sums, term, products, factor, cond, ors, both, ands, one, compare}
 
 -- kinds by numbers, so that they can be told apart
 abbrev pub number : Kind → ℕ
@@ -70,36 +70,6 @@ number k.LongWord = 52
 number k.LargeNumber = 53
 number k.Other = 54
 
--- the phrases by numbers
-abbrev pub head_number : Head → ℕ
-head_number h.Source = 0
-head_number h.Params = 1
-head_number h.MoreParams = 2
-head_number h.Param = 3
-head_number h.Process = 4
-head_number h.ProcessBody = 5
-head_number h.Processes = 6
-head_number h.Arguments = 7
-head_number h.MoreArguments = 8
-head_number h.Stmt = 9
-head_number h.Named = 10
-head_number h.Else = 11
-head_number h.After = 12
-head_number h.Branch = 13
-head_number h.Meet = 14
-head_number h.Branches = 15
-head_number h.Rate = 16
-head_number h.Rates = 17
-head_number h.Interrupt = 18
-head_number h.More = 19
-head_number h.Factor = 20
-head_number h.Products = 21
-head_number h.Sums = 22
-head_number h.One = 23
-head_number h.Compare = 24
-head_number h.Ands = 25
-head_number h.Ors = 26
-
 -- a token of a kind is taken where that kind is wanted
 abbrev pub same : Kind → Kind → Bool
 same wanted kind = number wanted == number kind
@@ -115,6 +85,7 @@ entry h.ProcessBody kind = process_body kind
 entry h.Processes kind = processes kind
 entry h.Arguments kind = arguments kind
 entry h.MoreArguments kind = more_arguments kind
+entry h.Seq kind = seq kind
 entry h.Stmt kind = stmt kind
 entry h.Named kind = named kind
 entry h.Else kind = else_part kind
@@ -126,13 +97,17 @@ entry h.Rate kind = rate kind
 entry h.Rates kind = rates kind
 entry h.Interrupt kind = interrupt kind
 entry h.More kind = more kind
-entry h.Factor kind = factor kind
-entry h.Products kind = products kind
+entry h.Expr kind = expr kind
 entry h.Sums kind = sums kind
+entry h.Term kind = term kind
+entry h.Products kind = products kind
+entry h.Factor kind = factor kind
+entry h.Cond kind = cond kind
+entry h.Ors kind = ors kind
+entry h.Both kind = both kind
+entry h.Ands kind = ands kind
 entry h.One kind = one kind
 entry h.Compare kind = compare kind
-entry h.Ands kind = ands kind
-entry h.Ors kind = ors kind
 
 -- the phrases that may be empty
 abbrev pub empties : Head → Bool
@@ -208,19 +183,24 @@ follow_rate _ = false
 
 -- what may come behind a phrase that may be empty, or that may end in one
 abbrev pub follow : Head → Kind → Bool
+follow h.Seq kind = follow_seq kind
 follow h.Stmt kind = follow_stmt kind
 follow h.Named kind = follow_stmt kind
 follow h.Branch kind = follow_branch kind
 follow h.Meet kind = follow_io kind
 follow h.Rate kind = follow_rate kind
-follow h.One kind = follow_one kind
-follow h.Compare kind = follow_one kind
 follow h.Interrupt kind = follow_stmt kind
 follow h.More kind = follow_seq kind
-follow h.Products kind = follow_term kind
+follow h.Expr kind = follow_expr kind
 follow h.Sums kind = follow_expr kind
-follow h.Ands kind = follow_both kind
+follow h.Term kind = follow_term kind
+follow h.Products kind = follow_term kind
+follow h.Cond kind = follow_cond kind
 follow h.Ors kind = follow_cond kind
+follow h.Both kind = follow_both kind
+follow h.Ands kind = follow_both kind
+follow h.One kind = follow_one kind
+follow h.Compare kind = follow_one kind
 follow _ kind = true
 
 abbrev pub table : Table Kind Head Role Mark

@@ -16,6 +16,8 @@ pub enum Head {
     /// Arguments up to the `)` behind them.
     Arguments,
     MoreArguments,
+    /// Statements, one after another.
+    Seq,
     Stmt,
     /// A statement behind the name that it begins with.
     Named,
@@ -34,17 +36,22 @@ pub enum Head {
     Interrupt,
     /// Further statements.
     More,
-    Factor,
-    /// Further factors.
-    Products,
+    Expr,
     /// Further terms.
     Sums,
+    Term,
+    /// Further factors.
+    Products,
+    Factor,
+    Cond,
+    /// Further conditions behind `||`.
+    Ors,
+    /// Conditions that `&&` joins.
+    Both,
+    /// Further conditions behind `&&`.
+    Ands,
     /// One of the conditions that `&&` joins.
     One,
     /// A comparison behind its left side.
     Compare,
-    /// Further conditions behind `&&`.
-    Ands,
-    /// Further conditions behind `||`.
-    Ors,
 }

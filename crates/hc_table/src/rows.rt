@@ -1,8 +1,10 @@
 //! The table: what each phrase is before a token of each kind.
 
-ghost use Rattle.std.specs.Prelude.{◌≡◌, []};
+ghost use Rattle.std.specs.Prelude.{◌≡◌, [], ◌∷◌};
+ghost use Rattle.hc_grammar.specs.declared.symbol.Symbol.TheVariants as want;
 ghost use Rattle.hc_grammar.specs.Table.{with_more, Takes};
 ghost use Rattle.hc_grammar.specs.RowOf.{row_of};
+ghost use Rattle.hc_table.specs.declared.head.Head.TheVariants as h;
 ghost use Rattle.hc_table.specs.Rows as spec;
 ghost use Rattle.hc_table.specs.Table.{entry};
 
@@ -32,7 +34,8 @@ pub fn row_at(head: Head, kind: Kind) -> Row
         Head::Processes => processes(kind),
         Head::Arguments => arguments(kind),
         Head::MoreArguments => more_arguments(kind),
-        Head::Stmt => stmt(kind),
+        Head::Seq => stmt_then(kind, &[Phrase(Head::More)]),
+        Head::Stmt => stmt_then(kind, &[]),
         Head::Named => named(kind),
         Head::Else => else_part(kind),
         Head::After => after(kind),
@@ -43,13 +46,17 @@ pub fn row_at(head: Head, kind: Kind) -> Row
         Head::Rates => rates(kind),
         Head::Interrupt => interrupt(kind),
         Head::More => more(kind),
-        Head::Factor => factor(kind, &[]),
-        Head::Products => products(kind),
+        Head::Expr => factor(kind, &[Phrase(Head::Products), Phrase(Head::Sums)]),
         Head::Sums => sums(kind),
+        Head::Term => factor(kind, &[Phrase(Head::Products)]),
+        Head::Products => products(kind),
+        Head::Factor => factor(kind, &[]),
+        Head::Cond => cond(kind),
+        Head::Ors => ors(kind),
+        Head::Both => both(kind),
+        Head::Ands => ands(kind),
         Head::One => one(kind),
         Head::Compare => compare(kind),
-        Head::Ands => ands(kind),
-        Head::Ors => ors(kind),
     }
 }
 
@@ -72,12 +79,7 @@ fn factor(kind: Kind, more: &'static [Rule]) -> Row
         ),
         Kind::OpenRound => Row::Takes(
             Role::Open,
-            &[
-                Phrase(Head::Factor),
-                Phrase(Head::Products),
-                Phrase(Head::Sums),
-                Wants(Kind::CloseRound, Role::Close),
-            ],
+            &[Phrase(Head::Expr), Wants(Kind::CloseRound, Role::Close)],
             more,
         ),
         _ => Row::Refuses,
@@ -99,8 +101,7 @@ fn source(kind: Kind) -> Row
                 Wants(Kind::Colon, Role::Plain),
                 Wants(Kind::Begin, Role::Plain),
                 Did(Mark::Body),
-                Phrase(Head::Stmt),
-                Phrase(Head::More),
+                Phrase(Head::Seq),
                 Wants(Kind::EndBody, Role::Plain),
                 Wants(Kind::EndModule, Role::Plain),
                 Did(Mark::Module),
@@ -182,8 +183,7 @@ fn process_body(kind: Kind) -> Row
             Role::Plain,
             &[
                 Did(Mark::Body),
-                Phrase(Head::Stmt),
-                Phrase(Head::More),
+                Phrase(Head::Seq),
                 Wants(Kind::CloseRound, Role::Plain),
                 Did(Mark::Inline),
             ],
@@ -244,9 +244,7 @@ fn more_arguments(kind: Kind) -> Row
             Role::Plain,
             &[
                 Did(Mark::Fresh),
-                Phrase(Head::Factor),
-                Phrase(Head::Products),
-                Phrase(Head::Sums),
+                Phrase(Head::Expr),
                 Did(Mark::Argument),
                 Phrase(Head::MoreArguments),
             ],
@@ -255,84 +253,82 @@ fn more_arguments(kind: Kind) -> Row
     }
 }
 
-/// A statement.
-fn stmt(kind: Kind) -> Row
-    ensures { row_of result ≡ spec.stmt kind }
+/// A statement, and then more symbols.
+fn stmt_then(kind: Kind, more: &'static [Rule]) -> Row
+    ensures { row_of result ≡ with_more more.now (spec.stmt kind) }
 {
     match kind {
-        Kind::Skip => takes(Role::Keep, &[Did(Mark::Skip)]),
-        Kind::Name => takes(Role::Keep, &[Phrase(Head::Named)]),
-        Kind::Wait => word_of_time_or_log(&[Did(Mark::Wait)]),
-        Kind::Log => word_of_time_or_log(&[Did(Mark::Log)]),
-        Kind::If => word_if(),
-        Kind::OpenRound => takes(
-            Role::Begin,
+        Kind::Skip => Row::Takes(Role::Keep, &[Did(Mark::Skip)], more),
+        Kind::Name => Row::Takes(Role::Keep, &[Phrase(Head::Named)], more),
+        Kind::Wait => Row::Takes(
+            Role::Keep,
             &[
-                Did(Mark::Body),
-                Phrase(Head::Stmt),
-                Phrase(Head::More),
-                Wants(Kind::CloseRound, Role::Close),
-                Phrase(Head::After),
+                Wants(Kind::OpenRound, Role::Plain),
+                Did(Mark::Fresh),
+                Phrase(Head::Expr),
+                Wants(Kind::CloseRound, Role::Plain),
+                Did(Mark::Wait),
             ],
+            more,
         ),
-        Kind::EmptySquare => sign_of_choice(),
-        Kind::Less => takes(
-            Role::Begin,
+        Kind::Log => Row::Takes(
+            Role::Keep,
             &[
-                Did(Mark::Rates),
-                Phrase(Head::Rate),
-                Phrase(Head::Rates),
-                Phrase(Head::Interrupt),
-                Did(Mark::Evolve),
+                Wants(Kind::OpenRound, Role::Plain),
+                Did(Mark::Fresh),
+                Phrase(Head::Expr),
+                Wants(Kind::CloseRound, Role::Plain),
+                Did(Mark::Log),
             ],
+            more,
         ),
+        Kind::If => word_if(more),
+        Kind::OpenRound => group(more),
+        Kind::EmptySquare => sign_of_choice(more),
+        Kind::Less => evolution(more),
         _ => Row::Refuses,
     }
 }
 
-/// `wait` or `log`: an expression in brackets, and then the mark.
-fn word_of_time_or_log(mark: &'static [Rule]) -> Row
-    ensures { row_of result ≡ Takes Role.Keep (spec.in_brackets mark.now) }
+/// `if`, and then more symbols.
+fn word_if(more: &'static [Rule]) -> Row
+    ensures { row_of result ≡ with_more more.now (spec.stmt Kind.If) }
 {
     Row::Takes(
-        Role::Keep,
-        &[
-            Wants(Kind::OpenRound, Role::Plain),
-            Did(Mark::Fresh),
-            Phrase(Head::Factor),
-            Phrase(Head::Products),
-            Phrase(Head::Sums),
-            Wants(Kind::CloseRound, Role::Plain),
-        ],
-        mark,
-    )
-}
-
-/// `if`.
-fn word_if() -> Row
-    ensures { row_of result ≡ spec.stmt Kind.If }
-{
-    takes(
         Role::Begin,
         &[
             Did(Mark::Fresh),
-            Phrase(Head::One),
-            Phrase(Head::Ands),
-            Phrase(Head::Ors),
+            Phrase(Head::Cond),
             Wants(Kind::Then, Role::Plain),
             Did(Mark::Body),
-            Phrase(Head::Stmt),
-            Phrase(Head::More),
+            Phrase(Head::Seq),
             Phrase(Head::Else),
         ],
+        more,
     )
 }
 
-/// `[]`.
-fn sign_of_choice() -> Row
-    ensures { row_of result ≡ spec.stmt Kind.EmptySquare }
+/// Statements in brackets, and then more symbols.
+fn group(more: &'static [Rule]) -> Row
+    ensures { row_of result ≡ with_more more.now (spec.stmt Kind.OpenRound) }
 {
-    takes(
+    Row::Takes(
+        Role::Begin,
+        &[
+            Did(Mark::Body),
+            Phrase(Head::Seq),
+            Wants(Kind::CloseRound, Role::Close),
+            Phrase(Head::After),
+        ],
+        more,
+    )
+}
+
+/// `[]`, and then more symbols.
+fn sign_of_choice(more: &'static [Rule]) -> Row
+    ensures { row_of result ≡ with_more more.now (spec.stmt Kind.EmptySquare) }
+{
+    Row::Takes(
         Role::Keep,
         &[
             Wants(Kind::OpenRound, Role::Open),
@@ -341,6 +337,24 @@ fn sign_of_choice() -> Row
             Phrase(Head::Branches),
             Did(Mark::Choice),
         ],
+        more,
+    )
+}
+
+/// An evolution, and then more symbols.
+fn evolution(more: &'static [Rule]) -> Row
+    ensures { row_of result ≡ with_more more.now (spec.stmt Kind.Less) }
+{
+    Row::Takes(
+        Role::Begin,
+        &[
+            Did(Mark::Rates),
+            Phrase(Head::Rate),
+            Phrase(Head::Rates),
+            Phrase(Head::Interrupt),
+            Did(Mark::Evolve),
+        ],
+        more,
     )
 }
 
@@ -351,21 +365,13 @@ fn named(kind: Kind) -> Row
     match kind {
         Kind::ColonEqual => takes(
             Role::Plain,
-            &[
-                Did(Mark::Fresh),
-                Phrase(Head::Factor),
-                Phrase(Head::Products),
-                Phrase(Head::Sums),
-                Did(Mark::Assign),
-            ],
+            &[Did(Mark::Fresh), Phrase(Head::Expr), Did(Mark::Assign)],
         ),
         Kind::Exclamation => takes(
             Role::Plain,
             &[
                 Did(Mark::Fresh),
-                Phrase(Head::Factor),
-                Phrase(Head::Products),
-                Phrase(Head::Sums),
+                Phrase(Head::Expr),
                 Did(Mark::Send),
                 Did(Mark::Io),
             ],
@@ -392,8 +398,7 @@ fn else_part(kind: Kind) -> Row
             Role::Plain,
             &[
                 Did(Mark::Body),
-                Phrase(Head::Stmt),
-                Phrase(Head::More),
+                Phrase(Head::Seq),
                 Wants(Kind::EndIf, Role::Close),
                 Did(Mark::Else),
             ],
@@ -413,8 +418,7 @@ fn after(kind: Kind) -> Row
             &[
                 Wants(Kind::OpenRound, Role::Open),
                 Did(Mark::Body),
-                Phrase(Head::Stmt),
-                Phrase(Head::More),
+                Phrase(Head::Seq),
                 Wants(Kind::CloseRound, Role::Close),
                 Did(Mark::Pick),
             ],
@@ -423,9 +427,7 @@ fn after(kind: Kind) -> Row
             Role::Open,
             &[
                 Did(Mark::Fresh),
-                Phrase(Head::One),
-                Phrase(Head::Ands),
-                Phrase(Head::Ors),
+                Phrase(Head::Cond),
                 Wants(Kind::CloseCurly, Role::Close),
                 Wants(Kind::StarStar, Role::Plain),
                 Did(Mark::Loop),
@@ -446,8 +448,7 @@ fn branch(kind: Kind) -> Row
                 Phrase(Head::Meet),
                 Wants(Kind::Arrow, Role::Plain),
                 Did(Mark::Body),
-                Phrase(Head::Stmt),
-                Phrase(Head::More),
+                Phrase(Head::Seq),
                 Did(Mark::Branch),
             ],
         ),
@@ -462,13 +463,7 @@ fn meet(kind: Kind) -> Row
     match kind {
         Kind::Exclamation => takes(
             Role::Plain,
-            &[
-                Did(Mark::Fresh),
-                Phrase(Head::Factor),
-                Phrase(Head::Products),
-                Phrase(Head::Sums),
-                Did(Mark::Send),
-            ],
+            &[Did(Mark::Fresh), Phrase(Head::Expr), Did(Mark::Send)],
         ),
         Kind::Question => takes(
             Role::Plain,
@@ -499,9 +494,7 @@ fn rate(kind: Kind) -> Row
             &[
                 Wants(Kind::Equal, Role::Plain),
                 Did(Mark::Fresh),
-                Phrase(Head::Factor),
-                Phrase(Head::Products),
-                Phrase(Head::Sums),
+                Phrase(Head::Expr),
                 Did(Mark::Rate),
             ],
         ),
@@ -519,9 +512,7 @@ fn rates(kind: Kind) -> Row
             Role::Plain,
             &[
                 Did(Mark::Fresh),
-                Phrase(Head::One),
-                Phrase(Head::Ands),
-                Phrase(Head::Ors),
+                Phrase(Head::Cond),
                 Wants(Kind::Greater, Role::Close),
             ],
         ),
@@ -581,42 +572,77 @@ fn sums(kind: Kind) -> Row
     match kind {
         Kind::Plus | Kind::Minus => takes(
             Role::Operator,
-            &[
-                Phrase(Head::Factor),
-                Phrase(Head::Products),
-                Did(Mark::Binary),
-                Phrase(Head::Sums),
-            ],
+            &[Phrase(Head::Term), Did(Mark::Binary), Phrase(Head::Sums)],
         ),
         _ => Row::Skips,
     }
 }
 
-/// One of the conditions that `&&` joins.
-fn one(kind: Kind) -> Row
-    ensures { row_of result ≡ spec.one kind }
+/// One of the conditions that `&&` joins, and then more symbols; `compared` is what comes behind the
+/// first factor of a comparison.
+fn one_then(kind: Kind, more: &'static [Rule], compared: &'static [Rule]) -> Row
+    requires { compared.now ≡ want.Head h.Products ∷ want.Head h.Sums ∷ want.Head h.Compare ∷ more.now }
+    ensures { row_of result ≡ with_more more.now (spec.one kind) }
 {
     match kind {
-        Kind::Exclamation => takes(Role::Prefix, &[Phrase(Head::One), Did(Mark::Not)]),
-        Kind::True | Kind::False => takes(Role::Leaf, &[]),
-        Kind::OpenSquare => takes(
+        Kind::Exclamation => Row::Takes(Role::Prefix, &[Phrase(Head::One), Did(Mark::Not)], more),
+        Kind::True | Kind::False => Row::Takes(Role::Leaf, &[], more),
+        Kind::OpenSquare => Row::Takes(
             Role::Open,
-            &[
-                Phrase(Head::One),
-                Phrase(Head::Ands),
-                Phrase(Head::Ors),
-                Wants(Kind::CloseSquare, Role::Close),
-            ],
+            &[Phrase(Head::Cond), Wants(Kind::CloseSquare, Role::Close)],
+            more,
         ),
-        _ => factor(
-            kind,
-            &[
-                Phrase(Head::Products),
-                Phrase(Head::Sums),
-                Phrase(Head::Compare),
-            ],
-        ),
+        Kind::Number | Kind::Name | Kind::Minus | Kind::OpenRound => factor(kind, compared),
+        _ => Row::Refuses,
     }
+}
+
+/// A condition.
+fn cond(kind: Kind) -> Row
+    ensures { row_of result ≡ spec.cond kind }
+{
+    one_then(
+        kind,
+        &[Phrase(Head::Ands), Phrase(Head::Ors)],
+        &[
+            Phrase(Head::Products),
+            Phrase(Head::Sums),
+            Phrase(Head::Compare),
+            Phrase(Head::Ands),
+            Phrase(Head::Ors),
+        ],
+    )
+}
+
+/// Conditions that `&&` joins.
+fn both(kind: Kind) -> Row
+    ensures { row_of result ≡ spec.both kind }
+{
+    one_then(
+        kind,
+        &[Phrase(Head::Ands)],
+        &[
+            Phrase(Head::Products),
+            Phrase(Head::Sums),
+            Phrase(Head::Compare),
+            Phrase(Head::Ands),
+        ],
+    )
+}
+
+/// One of the conditions that `&&` joins.
+fn one(kind: Kind) -> Row
+    ensures { row_of result ≡ with_more [] (spec.one kind) }
+{
+    one_then(
+        kind,
+        &[],
+        &[
+            Phrase(Head::Products),
+            Phrase(Head::Sums),
+            Phrase(Head::Compare),
+        ],
+    )
 }
 
 /// A comparison behind its left side.
@@ -629,15 +655,7 @@ fn compare(kind: Kind) -> Row
         | Kind::EqualEqual
         | Kind::NotEqual
         | Kind::GreaterEqual
-        | Kind::Greater => takes(
-            Role::Operator,
-            &[
-                Phrase(Head::Factor),
-                Phrase(Head::Products),
-                Phrase(Head::Sums),
-                Did(Mark::Compare),
-            ],
-        ),
+        | Kind::Greater => takes(Role::Operator, &[Phrase(Head::Expr), Did(Mark::Compare)]),
         _ => Row::Refuses,
     }
 }
@@ -662,12 +680,7 @@ fn ors(kind: Kind) -> Row
     match kind {
         Kind::BarBar => takes(
             Role::Operator,
-            &[
-                Phrase(Head::One),
-                Phrase(Head::Ands),
-                Did(Mark::Or),
-                Phrase(Head::Ors),
-            ],
+            &[Phrase(Head::Both), Did(Mark::Or), Phrase(Head::Ors)],
         ),
         _ => Row::Skips,
     }
