@@ -22,5 +22,12 @@ pub(crate) fn made_as(alloc: Global, row: &[u8], wanted: &[u8]) -> Result<String
         return String::from_str(alloc, "no numbers");
     };
     let text = made_source(alloc, pairs, seed)?;
-    String::from_str(alloc, if text.as_slice() == wanted { "as given" } else { "another text" })
+    String::from_str(
+        alloc,
+        if text.as_slice() == wanted {
+            "as given"
+        } else {
+            "another text"
+        },
+    )
 }
