@@ -1,13 +1,13 @@
 #!/usr/bin/env python3
 """How the time of `hcsp check` grows with the text, over the worst shapes of a source.
 
-Prints a table: for each shape the seconds at about 250,000, 500,000 and 1,048,576 bytes, and how many times the time
+Prints a table: for each shape the seconds of processor, the least of five, at about 250,000, 500,000 and 1,048,576 bytes, and how many times the time
 grows where the size doubles. Build the program first (`./hcsp check < examples/tank.hcsp`).
 """
+import resource
 import subprocess
 import sys
 import tempfile
-import time
 from pathlib import Path
 
 PROGRAM = Path(__file__).resolve().parent.parent / "crates/hc_main/out/hc_main"
@@ -95,11 +95,12 @@ def seconds(text):
     with tempfile.TemporaryFile() as source:
         source.write(text.encode())
         best = None
-        for _ in range(3):
+        for _ in range(5):
             source.seek(0)
-            start = time.monotonic()
+            before = resource.getrusage(resource.RUSAGE_CHILDREN)
             subprocess.run([PROGRAM, "check"], stdin=source, stdout=subprocess.DEVNULL, stderr=subprocess.DEVNULL, timeout=600)
-            spent = time.monotonic() - start
+            after = resource.getrusage(resource.RUSAGE_CHILDREN)
+            spent = after.ru_utime - before.ru_utime + after.ru_stime - before.ru_stime
             best = spent if best is None else min(best, spent)
         return best
 
