@@ -10,9 +10,6 @@ fn numbers_in(row: &[u8]) -> Option<(u32, u64)> {
     let (pairs, seed) = text.split_once(" ")?;
     let pairs = pairs.parse::<u32>().ok()?;
     let seed = seed.parse::<u64>().ok()?;
-    if pairs > MOST_PAIRS {
-        return None;
-    }
     Some((pairs, seed))
 }
 
@@ -21,6 +18,9 @@ pub(crate) fn made_as(alloc: Global, row: &[u8], wanted: &[u8]) -> Result<String
     let Some((pairs, seed)) = numbers_in(row) else {
         return String::from_str(alloc, "no numbers");
     };
+    if pairs > MOST_PAIRS {
+        return String::from_str(alloc, "too many pairs");
+    }
     let text = made_source(alloc, pairs, seed)?;
     String::from_str(
         alloc,
