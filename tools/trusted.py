@@ -13,7 +13,7 @@ from pathlib import Path
 TOP = Path(__file__).resolve().parent.parent
 STATED_IN = ["crates/hc_cmd/src/answering.rt", "crates/hc_cmd/src/laws.rt", "crates/hc_words/src/laws.rt"]
 IMPORT = re.compile(r"(pub )?use Rattle\.(hc_\w+)\.specs\.([\w.]+?)(?:\.\{([^}]*)\}| as (\S+))?;?\s*$")
-DEFINED = re.compile(r"^\s*(?:(?:abbrev|pub|unfoldable) )*(?:(?:record|data) )?((?:[^\s:(){}=→]+ )*[^\s:(){}=→]+)(?=\s*[:({])")
+DEFINED = re.compile(r"^\s*(?:(?:abbrev|pub|unfoldable) )*(?:(?:record|data) ([^\s:(){}=→]+)(?=\s*[:({])|((?:[^\s:(){}=→]+ )*[^\s:(){}=→]+)(?=\s*:))")
 
 
 class File:
@@ -30,7 +30,7 @@ class File:
             for line in block:
                 found = DEFINED.match(line)
                 if found and not line.lstrip().startswith("--"):
-                    for word in found.group(1).split():
+                    for word in (found.group(1) or found.group(2)).split():
                         self.defined.setdefault(word.strip("◌"), len(self.blocks) - 1)
 
     def read_imports(self, lines):

@@ -37,7 +37,7 @@ mutual
     compare : Expr → OfSign comparison → Expr → One
 
 abbrev mutual
-  -- how each is spelled, in front of w
+  -- how each is spelled, in front of w; of the marks only `Not` changes a count (Counts)
   pub cond : Cond → Spelled → Spelled
   cond (either b os) w = both_of b (ors os w)
 
@@ -56,7 +56,7 @@ abbrev mutual
   one (negation t o) w = Read t.0 r.Prefix ∷ one o (Did m.Not ∷ w)
   one (always t) w = Read t.0 r.Leaf ∷ w
   one (never t) w = Read t.0 r.Leaf ∷ w
-  one (brackets a x b) w = Read a.0 r.Open ∷ cond x (Read b.0 r.Close ∷ w)
+  one (brackets left x right) w = Read left.0 r.Open ∷ cond x (Read right.0 r.Close ∷ w)
   one (compare x s y) w = expr x (Read s.0 r.Operator ∷ expr y (Did m.Compare ∷ w))
 
 -- a condition at a place
@@ -83,5 +83,5 @@ abbrev mutual
   one_tree (negation t o) = cond_at t.0.place (c.Not (one_tree o))
   one_tree (always t) = cond_at t.0.place c.True
   one_tree (never t) = cond_at t.0.place c.False
-  one_tree (brackets a x b) = cond_tree x
+  one_tree (brackets left x right) = cond_tree x
   one_tree (compare x s y) = cond_at s.0.place (c.Compare s.1 (expr_tree x) (expr_tree y))

@@ -5,6 +5,8 @@ use Rattle.hc_grammar.specs.Reader.{Reader}
 use Rattle.hc_token.specs.declared.kind.Kind.{Kind}
 use Rattle.hc_token.specs.declared.kind.Kind.TheVariants as k
 use Rattle.hc_token.specs.declared.token.Token.{Token}
+use Rattle.hc_ast.specs.declared.flaw.Flaw.{Flaw}
+use Rattle.hc_ast.specs.declared.flaw.Flaw.TheVariants as wrong
 use Rattle.hc_ast.specs.declared.role.Role.{Role}
 use Rattle.hc_ast.specs.declared.role.Role.TheVariants as r
 use Rattle.hc_ast.specs.declared.role.Mark.{Mark}
@@ -46,27 +48,23 @@ after_mark m.Not n = record { open_items = n.open_items - 1; nodes = n.nodes }
 after_mark m.Fresh n = record { open_items = n.open_items; nodes = 0 }
 after_mark _ n = n
 
--- what may be wrong with a token
-pub data Flaw : Type 0 where
-  name_too_long number_unfit syntax too_deep too_many_nodes : Flaw
-
 -- as it stands: a word that is too long, a number out of range
 abbrev pub unfit : Kind → Option Flaw
-unfit k.LongWord = Some name_too_long
-unfit k.LargeNumber = Some number_unfit
+unfit k.LongWord = Some wrong.NameTooLong
+unfit k.LargeNumber = Some wrong.NumberUnfit
 unfit _ = None
 
 -- in its role: with it there are more open items, or more nodes, than the limit
 abbrev pub beyond : Role → Counts → Option Flaw
 beyond role n =
-    if opens role && nat_le most_open_items n.open_items then Some too_deep
-    else (if is_node role && nat_le most_nodes n.nodes then Some too_many_nodes else None)
+    if opens role && nat_le most_open_items n.open_items then Some wrong.TooDeep
+    else (if is_node role && nat_le most_nodes n.nodes then Some wrong.TooManyNodes else None)
 
 -- the questions at each token of a source
 abbrev pub reader : Reader Token Role Mark Counts Flaw
 reader = record {
   walk = record { on_token = λ role t n. after_token role n; on_mark = after_mark };
   early = λ t n. unfit t.kind;
-  syntax = syntax;
+  syntax = wrong.Syntax;
   judge = λ role t n. beyond role n;
 }

@@ -35,7 +35,7 @@ mutual
     brackets : OfKind k.OpenRound → Expr → OfKind k.CloseRound → Factor
 
 abbrev mutual
-  -- how each is spelled, in front of w
+  -- how each is spelled, in front of w; of the marks only `Negate` changes a count (Counts)
   pub expr : Expr → Spelled → Spelled
   expr (sum t ss) w = term t (sums ss w)
 
@@ -54,7 +54,7 @@ abbrev mutual
   factor (minus t f) w = Read t.0 r.Prefix ∷ factor f (Did m.Negate ∷ w)
   factor (number t) w = Read t.0 r.Leaf ∷ w
   factor (variable t) w = Read t.0 r.Leaf ∷ w
-  factor (brackets a x b) w = Read a.0 r.Open ∷ expr x (Read b.0 r.Close ∷ w)
+  factor (brackets left x right) w = Read left.0 r.Open ∷ expr x (Read right.0 r.Close ∷ w)
 
 -- an expression at a place
 abbrev pub expr_at : Place → ExprKind → ExprTree
@@ -80,4 +80,4 @@ abbrev mutual
   factor_tree (minus t f) = expr_at t.0.place (e.Neg (factor_tree f))
   factor_tree (number t) = expr_at t.0.place (e.Number (number_in t.0.content))
   factor_tree (variable t) = expr_at t.0.place (e.Name (name_in t.0.content))
-  factor_tree (brackets a x b) = expr_tree x
+  factor_tree (brackets left x right) = expr_tree x

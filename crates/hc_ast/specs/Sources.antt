@@ -1,4 +1,4 @@
--- Whole sources as the grammar has them.
+-- Whole sources as the grammar has them. Each token has the name that it has in SourceRoles and in SourceTrees.
 use Rattle.std.specs.Prelude.{Option, Some, None}
 use Rattle.hc_token.specs.declared.kind.Kind.{Kind}
 use Rattle.hc_token.specs.declared.kind.Kind.TheVariants as k
@@ -16,48 +16,50 @@ param_kind _ = None
 
 -- param = ( "ch" | "val" ) NAME
 pub data Param : Type 0 where
-  param : OfSign param_kind → OfKind k.Name → Param
+  param : (word : OfSign param_kind) (name : OfKind k.Name) → Param
 
 -- { "," param }
 pub data MoreParams : Type 0 where
   no_param : MoreParams
-  next_param : OfKind k.Comma → Param → MoreParams → MoreParams
+  next_param : (comma : OfKind k.Comma) (x : Param) (xs : MoreParams) → MoreParams
 
 -- [ param { "," param } ]
 pub data Params : Type 0 where
   none : Params
-  some : Param → MoreParams → Params
+  some : (x : Param) (xs : MoreParams) → Params
 
 -- module = "module" NAME "(" [ param { "," param } ] ")" ":" "begin" seq "end" "endmodule"
 pub data Module : Type 0 where
-  module_of : OfKind k.Module → OfKind k.Name → OfKind k.OpenRound → Params → OfKind k.CloseRound → OfKind k.Colon
-      → OfKind k.Begin → Seq → OfKind k.EndBody → OfKind k.EndModule → Module
+  module_of : (word : OfKind k.Module) (name : OfKind k.Name) (left : OfKind k.OpenRound) (ps : Params)
+      (right : OfKind k.CloseRound) (colon : OfKind k.Colon) (begin_word : OfKind k.Begin) (ss : Seq)
+      (end_word : OfKind k.EndBody) (last_word : OfKind k.EndModule) → Module
 
 -- { "," expr }
 pub data MoreArguments : Type 0 where
   no_argument : MoreArguments
-  next_argument : OfKind k.Comma → Expr → MoreArguments → MoreArguments
+  next_argument : (comma : OfKind k.Comma) (x : Expr) (xs : MoreArguments) → MoreArguments
 
 -- [ expr { "," expr } ]
 pub data Arguments : Type 0 where
   without : Arguments
-  with : Expr → MoreArguments → Arguments
+  with : (x : Expr) (xs : MoreArguments) → Arguments
 
 -- process = NAME "=" ( "(" seq ")" | NAME "(" [ expr { "," expr } ] ")" )
 pub data Process : Type 0 where
-  inline : OfKind k.Name → OfKind k.Equal → OfKind k.OpenRound → Seq → OfKind k.CloseRound → Process
-  call : OfKind k.Name → OfKind k.Equal → OfKind k.Name → OfKind k.OpenRound → Arguments → OfKind k.CloseRound → Process
+  inline : (name : OfKind k.Name) (sign : OfKind k.Equal) (left : OfKind k.OpenRound) (ss : Seq) (right : OfKind k.CloseRound) → Process
+  call : (name : OfKind k.Name) (sign : OfKind k.Equal) (callee : OfKind k.Name) (left : OfKind k.OpenRound) (values : Arguments)
+      (right : OfKind k.CloseRound) → Process
 
 -- { "||" process }
 pub data Processes : Type 0 where
   no_process : Processes
-  next_process : OfKind k.BarBar → Process → Processes → Processes
+  next_process : (bars : OfKind k.BarBar) (x : Process) (xs : Processes) → Processes
 
 -- source = { module } system, system = "system" process { "||" process } "endsystem"
 pub data Source : Type 0 where
-  after_module : Module → Source → Source
-  system : OfKind k.System → Process → Processes → OfKind k.EndSystem → Source
+  after_module : (x : Module) (xs : Source) → Source
+  system : (word : OfKind k.System) (x : Process) (xs : Processes) (end_word : OfKind k.EndSystem) → Source
 
 -- a source, and then the end of the text
 pub data Whole : Type 0 where
-  whole : Source → OfKind k.End → Whole
+  whole : (x : Source) (last : OfKind k.End) → Whole

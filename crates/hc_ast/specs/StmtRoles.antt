@@ -1,4 +1,6 @@
--- How statements are spelled, each in front of w.
+-- How statements are spelled, each in front of w: their tokens in the order of the grammar, in their roles, with marks between them.
+-- Of the marks only `Fresh`, `Negate` and `Not` change a count; the others, and whether a token is kept, serve whoever builds
+-- the tree, and mean nothing for what a source is. Of the roles only what they open, close and count as nodes means something (Counts).
 use Rattle.std.specs.Prelude.{◌∷◌}
 use Rattle.hc_grammar.specs.Texts.{Read, Did}
 use Rattle.hc_ast.specs.declared.role.Role.TheVariants as r
@@ -8,61 +10,79 @@ use Rattle.hc_ast.specs.Exprs.{expr}
 use Rattle.hc_ast.specs.Conds.{cond}
 use Rattle.hc_ast.specs.Stmts as g
 
+-- io = NAME "!" expr | NAME "?" NAME
 abbrev pub io : g.Io → Spelled → Spelled
-io (g.send x s e) w = Read x.0 r.Keep ∷ Read s.0 r.Plain ∷ Did m.Fresh ∷ expr e (Did m.Send ∷ w)
-io (g.receive x s y) w = Read x.0 r.Keep ∷ Read s.0 r.Plain ∷ Read y.0 r.Keep ∷ Did m.Receive ∷ w
+io (g.send channel sign value) w =
+    Read channel.0 r.Keep ∷ Read sign.0 r.Plain ∷ Did m.Fresh ∷ expr value (Did m.Send ∷ w)
+io (g.receive channel sign target) w =
+    Read channel.0 r.Keep ∷ Read sign.0 r.Plain ∷ Read target.0 r.Keep ∷ Did m.Receive ∷ w
 
+-- rate = RATE "=" expr
 abbrev pub rate : g.Rate → Spelled → Spelled
-rate (g.rate x s e) w = Read x.0 r.Keep ∷ Read s.0 r.Plain ∷ Did m.Fresh ∷ expr e (Did m.Rate ∷ w)
+rate (g.rate variable sign value) w =
+    Read variable.0 r.Keep ∷ Read sign.0 r.Plain ∷ Did m.Fresh ∷ expr value (Did m.Rate ∷ w)
 
+-- { "," rate }
 abbrev pub rates : g.Rates → Spelled → Spelled
 rates g.no_rate w = w
-rates (g.next_rate t x xs) w = Read t.0 r.Plain ∷ rate x (rates xs w)
+rates (g.next_rate comma x xs) w = Read comma.0 r.Plain ∷ rate x (rates xs w)
 
 abbrev mutual
+  -- seq = stmt { ";" stmt }
   pub seq : g.Seq → Spelled → Spelled
-  seq (g.seq s ss) w = Did m.Body ∷ stmt s (more ss w)
+  seq (g.seq x xs) w = Did m.Body ∷ stmt x (more xs w)
 
   pub more : g.More → Spelled → Spelled
   more g.no_more w = w
-  more (g.next t s ss) w = Read t.0 r.Plain ∷ stmt s (more ss w)
+  more (g.next semicolon x xs) w = Read semicolon.0 r.Plain ∷ stmt x (more xs w)
 
+  -- stmt = "skip" | NAME ":=" expr | "wait" "(" expr ")" | "log" "(" expr ")" | io | "if" cond "then" seq [ "else" seq ] "endif"
+  --      | "(" seq ")" ( "++" "(" seq ")" | "**" | "{" cond "}" "**" ) | choice | "<" rate { "," rate } "&" cond ">" [ "|>" choice ]
   pub stmt : g.Stmt → Spelled → Spelled
-  stmt (g.skip t) w = Read t.0 r.Keep ∷ Did m.Skip ∷ w
-  stmt (g.assign x s e) w = Read x.0 r.Keep ∷ Read s.0 r.Plain ∷ Did m.Fresh ∷ expr e (Did m.Assign ∷ w)
-  stmt (g.wait t a e b) w =
-      Read t.0 r.Keep ∷ Read a.0 r.Plain ∷ Did m.Fresh ∷ expr e (Read b.0 r.Plain ∷ Did m.Wait ∷ w)
-  stmt (g.log t a e b) w =
-      Read t.0 r.Keep ∷ Read a.0 r.Plain ∷ Did m.Fresh ∷ expr e (Read b.0 r.Plain ∷ Did m.Log ∷ w)
+  stmt (g.skip word) w = Read word.0 r.Keep ∷ Did m.Skip ∷ w
+  stmt (g.assign target sign value) w =
+      Read target.0 r.Keep ∷ Read sign.0 r.Plain ∷ Did m.Fresh ∷ expr value (Did m.Assign ∷ w)
+  stmt (g.wait word left time right) w =
+      Read word.0 r.Keep ∷ Read left.0 r.Plain ∷ Did m.Fresh ∷ expr time (Read right.0 r.Plain ∷ Did m.Wait ∷ w)
+  stmt (g.log word left value right) w =
+      Read word.0 r.Keep ∷ Read left.0 r.Plain ∷ Did m.Fresh ∷ expr value (Read right.0 r.Plain ∷ Did m.Log ∷ w)
   stmt (g.communicate i) w = io i (Did m.Io ∷ w)
-  stmt (g.when t c u ss b) w =
-      Read t.0 r.Begin ∷ Did m.Fresh ∷ cond c (Read u.0 r.Plain ∷ seq ss (Read b.0 r.Close ∷ Did m.If ∷ w))
-  stmt (g.choose t c u ss v rs b) w =
-      Read t.0 r.Begin ∷ Did m.Fresh
-      ∷ cond c (Read u.0 r.Plain ∷ seq ss (Read v.0 r.Plain ∷ seq rs (Read b.0 r.Close ∷ Did m.Else ∷ w)))
-  stmt (g.pick a ss b t x rs y) w =
-      Read a.0 r.Begin ∷ seq ss
-      (Read b.0 r.Close ∷ Read t.0 r.Plain ∷ Read x.0 r.Open ∷ seq rs (Read y.0 r.Close ∷ Did m.Pick ∷ w))
-  stmt (g.forever a ss b t) w =
-      Read a.0 r.Begin ∷ seq ss (Read b.0 r.Close ∷ Read t.0 r.Plain ∷ Did m.Forever ∷ w)
-  stmt (g.loop a ss b x c y t) w =
-      Read a.0 r.Begin ∷ seq ss
-      (Read b.0 r.Close ∷ Read x.0 r.Open ∷ Did m.Fresh ∷ cond c (Read y.0 r.Close ∷ Read t.0 r.Plain ∷ Did m.Loop ∷ w))
-  stmt (g.select (g.choice t a x xs b)) w =
-      Read t.0 r.Keep ∷ Read a.0 r.Open ∷ Did m.Branches
-      ∷ branch x (branches xs (Read b.0 r.Close ∷ Did m.Choice ∷ w))
-  stmt (g.evolve a x xs t c b i) w =
-      Read a.0 r.Begin ∷ Did m.Rates
-      ∷ rate x (rates xs (Read t.0 r.Plain ∷ Did m.Fresh ∷ cond c (Read b.0 r.Close ∷ interrupt i (Did m.Evolve ∷ w))))
+  stmt (g.when word test then_word body end_word) w =
+      Read word.0 r.Begin ∷ Did m.Fresh
+      ∷ cond test (Read then_word.0 r.Plain ∷ seq body (Read end_word.0 r.Close ∷ Did m.If ∷ w))
+  stmt (g.choose word test then_word body else_word other end_word) w =
+      Read word.0 r.Begin ∷ Did m.Fresh
+      ∷ cond test
+      (Read then_word.0 r.Plain ∷ seq body (Read else_word.0 r.Plain ∷ seq other (Read end_word.0 r.Close ∷ Did m.Else ∷ w)))
+  stmt (g.pick left first right sign left' second right') w =
+      Read left.0 r.Begin ∷ seq first
+      (Read right.0 r.Close ∷ Read sign.0 r.Plain ∷ Read left'.0 r.Open
+      ∷ seq second (Read right'.0 r.Close ∷ Did m.Pick ∷ w))
+  stmt (g.forever left body right stars) w =
+      Read left.0 r.Begin ∷ seq body (Read right.0 r.Close ∷ Read stars.0 r.Plain ∷ Did m.Forever ∷ w)
+  stmt (g.loop left body right brace test brace' stars) w =
+      Read left.0 r.Begin ∷ seq body
+      (Read right.0 r.Close ∷ Read brace.0 r.Open ∷ Did m.Fresh
+      ∷ cond test (Read brace'.0 r.Close ∷ Read stars.0 r.Plain ∷ Did m.Loop ∷ w))
+  stmt (g.select (g.choice box left x xs right)) w =
+      Read box.0 r.Keep ∷ Read left.0 r.Open ∷ Did m.Branches
+      ∷ branch x (branches xs (Read right.0 r.Close ∷ Did m.Choice ∷ w))
+  stmt (g.evolve less x xs sign domain greater i) w =
+      Read less.0 r.Begin ∷ Did m.Rates
+      ∷ rate x (rates xs
+      (Read sign.0 r.Plain ∷ Did m.Fresh ∷ cond domain (Read greater.0 r.Close ∷ interrupt i (Did m.Evolve ∷ w))))
 
+  -- [ "|>" choice ], choice = "[]" "(" branch { "," branch } ")"
   pub interrupt : g.Interrupt → Spelled → Spelled
   interrupt g.none w = w
-  interrupt (g.on u (g.choice t a x xs b)) w =
-      Read u.0 r.Plain ∷ Read t.0 r.Plain ∷ Read a.0 r.Open ∷ branch x (branches xs (Read b.0 r.Close ∷ w))
+  interrupt (g.on sign (g.choice box left x xs right)) w =
+      Read sign.0 r.Plain ∷ Read box.0 r.Plain ∷ Read left.0 r.Open ∷ branch x (branches xs (Read right.0 r.Close ∷ w))
 
+  -- { "," branch }
   pub branches : g.Branches → Spelled → Spelled
   branches g.no_other w = w
-  branches (g.other t x xs) w = Read t.0 r.Plain ∷ branch x (branches xs w)
+  branches (g.other comma x xs) w = Read comma.0 r.Plain ∷ branch x (branches xs w)
 
+  -- branch = io "-->" seq
   pub branch : g.Branch → Spelled → Spelled
-  branch (g.branch i t ss) w = io i (Read t.0 r.Plain ∷ seq ss (Did m.Branch ∷ w))
+  branch (g.branch i arrow body) w = io i (Read arrow.0 r.Plain ∷ seq body (Did m.Branch ∷ w))

@@ -88,16 +88,24 @@ impl ExprKind {
             ExprKind::Number(number) => Ok(ExprKind::Number(*number)),
             ExprKind::Name(name) => Ok(ExprKind::Name(name.copy())),
             ExprKind::Neg(part) => {
-                let part = part.get().copy(alloc)?;
-                Ok(ExprKind::Neg(Boxed::new(alloc, part)?))
+                let part = boxed_expr(alloc, part)?;
+                Ok(ExprKind::Neg(part))
             }
             ExprKind::Binary(op, left, right) => {
-                let left = left.get().copy(alloc)?;
-                let right = right.get().copy(alloc)?;
-                Ok(ExprKind::Binary(*op, Boxed::new(alloc, left)?, Boxed::new(alloc, right)?))
+                let left = boxed_expr(alloc, left)?;
+                let right = boxed_expr(alloc, right)?;
+                Ok(ExprKind::Binary(*op, left, right))
             }
         }
     }
+}
+
+#[cycle(expr_copies)]
+fn boxed_expr(alloc: Global, part: &Boxed<ExprTree>) -> Result<Boxed<ExprTree>, AllocError>
+    ensures { IfOk result (λ t. t ≡ part.now) }
+{
+    let copy = part.get().copy(alloc)?;
+    Boxed::new(alloc, copy)
 }
 
 impl CondTree {
@@ -124,24 +132,32 @@ impl CondKind {
             CondKind::True => Ok(CondKind::True),
             CondKind::False => Ok(CondKind::False),
             CondKind::Compare(how, left, right) => {
-                let left = left.get().copy(alloc)?;
-                let right = right.get().copy(alloc)?;
-                Ok(CondKind::Compare(*how, Boxed::new(alloc, left)?, Boxed::new(alloc, right)?))
+                let left = boxed_expr(alloc, left)?;
+                let right = boxed_expr(alloc, right)?;
+                Ok(CondKind::Compare(*how, left, right))
             }
             CondKind::Not(part) => {
-                let part = part.get().copy(alloc)?;
-                Ok(CondKind::Not(Boxed::new(alloc, part)?))
+                let part = boxed_cond(alloc, part)?;
+                Ok(CondKind::Not(part))
             }
             CondKind::And(left, right) => {
-                let left = left.get().copy(alloc)?;
-                let right = right.get().copy(alloc)?;
-                Ok(CondKind::And(Boxed::new(alloc, left)?, Boxed::new(alloc, right)?))
+                let left = boxed_cond(alloc, left)?;
+                let right = boxed_cond(alloc, right)?;
+                Ok(CondKind::And(left, right))
             }
             CondKind::Or(left, right) => {
-                let left = left.get().copy(alloc)?;
-                let right = right.get().copy(alloc)?;
-                Ok(CondKind::Or(Boxed::new(alloc, left)?, Boxed::new(alloc, right)?))
+                let left = boxed_cond(alloc, left)?;
+                let right = boxed_cond(alloc, right)?;
+                Ok(CondKind::Or(left, right))
             }
         }
     }
+}
+
+#[cycle(cond_copies)]
+fn boxed_cond(alloc: Global, part: &Boxed<CondTree>) -> Result<Boxed<CondTree>, AllocError>
+    ensures { IfOk result (λ t. t ≡ part.now) }
+{
+    let copy = part.get().copy(alloc)?;
+    Boxed::new(alloc, copy)
 }

@@ -2,6 +2,7 @@
 #![tactic(auto)]
 
 mod expr;
+mod flaw;
 mod role;
 mod same;
 mod stmt;
@@ -9,6 +10,7 @@ mod tree;
 mod whole;
 
 pub use expr::{Comparison, CondKind, CondTree, ExprKind, ExprTree, Op};
+pub use flaw::Flaw;
 pub use role::{Mark, Role};
 pub use stmt::{BranchTree, IoTree, RateTree, StmtKind, StmtTree};
 pub use tree::{Body, ModuleDef, Param, ParamKind, ProcessDef, Tree};

@@ -170,14 +170,32 @@ impl StmtKind {
                 let value = value.copy(alloc)?;
                 Ok(StmtKind::Log { value })
             }
-            StmtKind::If { test, yes, no } => {
+            StmtKind::If {
+                test,
+                yes,
+                no: None,
+            } => {
                 let test = test.copy(alloc)?;
                 let yes = copy_statements(alloc, yes.as_slice())?;
-                let no = match no {
-                    Some(no) => Some(copy_statements(alloc, no.as_slice())?),
-                    None => None,
-                };
-                Ok(StmtKind::If { test, yes, no })
+                Ok(StmtKind::If {
+                    test,
+                    yes,
+                    no: None,
+                })
+            }
+            StmtKind::If {
+                test,
+                yes,
+                no: Some(no),
+            } => {
+                let test = test.copy(alloc)?;
+                let yes = copy_statements(alloc, yes.as_slice())?;
+                let no = copy_statements(alloc, no.as_slice())?;
+                Ok(StmtKind::If {
+                    test,
+                    yes,
+                    no: Some(no),
+                })
             }
             StmtKind::Pick { left, right } => {
                 let left = copy_statements(alloc, left.as_slice())?;

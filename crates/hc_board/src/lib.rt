@@ -4,9 +4,11 @@
 mod board;
 mod delayed;
 mod delays;
+mod laws;
 mod meetings;
 #[cfg(test)]
 mod tests;
 
 pub use board::Board;
 pub use delayed::Delayed;
+pub use laws::board_laws;

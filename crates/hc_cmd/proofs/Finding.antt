@@ -9,7 +9,7 @@ use Rattle.hc_print.specs.Canonical.{canonical}
 use Rattle.hc_words.specs.declared.requests.Request.{Request}
 use Rattle.hc_words.specs.Requests.{Ask}
 use Rattle.hc_cmd.specs.Calls.{Replies, no_memory, replied, answered}
-use Rattle.hc_ast.specs.Counts.{name_too_long, number_unfit, syntax, too_deep, too_many_nodes}
+use Rattle.hc_ast.specs.declared.flaw.Flaw.TheVariants as wrong
 use Rattle.hc_ast.specs.declared.tree.Tree.{Tree}
 use Rattle.hc_ast.specs.Source.{IsSource}
 use Rattle.hc_parse.specs.declared.parsing.ParseStop.{ParseStop}
@@ -63,11 +63,11 @@ not_accepted G text reply (source tree is given) = source tree is (not_accepted_
 
 -- what the stop of parsing gives
 pub unparsed_gives : (text : List ℕ) (s : ParseStop) → IsStop text s → MemoryOr (OfText (λ _ _. ⊥) text) (Unparsed s)
-unparsed_gives text (stop.NameTooLong p) is = inr (no_source name_too_long p is refl)
-unparsed_gives text (stop.NumberUnfit p) is = inr (no_source number_unfit p is refl)
-unparsed_gives text (stop.Syntax p) is = inr (no_source syntax p is refl)
-unparsed_gives text (stop.TooDeep p) is = inr (no_source too_deep p is refl)
-unparsed_gives text (stop.TooManyNodes p) is = inr (no_source too_many_nodes p is refl)
+unparsed_gives text (stop.NameTooLong p) is = inr (no_source wrong.NameTooLong p is refl)
+unparsed_gives text (stop.NumberUnfit p) is = inr (no_source wrong.NumberUnfit p is refl)
+unparsed_gives text (stop.Syntax p) is = inr (no_source wrong.Syntax p is refl)
+unparsed_gives text (stop.TooDeep p) is = inr (no_source wrong.TooDeep p is refl)
+unparsed_gives text (stop.TooManyNodes p) is = inr (no_source wrong.TooManyNodes p is refl)
 unparsed_gives text stop.Memory is = inl refl
 
 -- what the stop of expansion gives

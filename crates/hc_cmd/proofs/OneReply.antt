@@ -3,7 +3,7 @@ use Rattle.std.proofs.Common.{◌≡◌, ◌≤◌, ℕ, true, false, List, IsTr
 use Rattle.hc_limits.specs.Limits.{most_steps}
 use denote.Struct.Props.{props}
 use Rattle.hc_rational.specs.Words.{Rational, is_positive}
-use Rattle.hc_ast.specs.Counts.{Flaw}
+use Rattle.hc_ast.specs.declared.flaw.Flaw.{Flaw}
 use Rattle.hc_ast.specs.declared.tree.Tree.{Tree}
 use Rattle.hc_frac.specs.declared.place.Place.{Place}
 use Rattle.hc_parse.specs.Laws.{OneTree, SourcesAreNotRefused}

@@ -3,7 +3,7 @@ use Rattle.std.specs.Prelude.{◌≡◌, ℕ, true, List, [], ◌∷◌, ◌++�
 use Rattle.hc_limits.specs.Limits.{most_source_bytes}
 use Rattle.hc_frac.specs.declared.place.Place.{Place}
 use Rattle.hc_ast.specs.declared.tree.Tree.{Tree}
-use Rattle.hc_ast.specs.Counts.{Flaw}
+use Rattle.hc_ast.specs.declared.flaw.Flaw.{Flaw}
 use Rattle.hc_ast.specs.Source.{IsSource, IsRefused}
 use Rattle.hc_print.specs.Canonical.{canonical as canonical_spelling}
 use Rattle.hc_modules.specs.declared.flat.Flat.{Flat}

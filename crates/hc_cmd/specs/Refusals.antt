@@ -1,7 +1,8 @@
 -- The status and the line of each refusal.
 use Rattle.std.specs.Prelude.{ℕ, List, [], ◌∷◌, ◌++◌, codes, decimal}
 use Rattle.hc_frac.specs.declared.place.Place.{Place}
-use Rattle.hc_ast.specs.Counts.{Flaw, name_too_long, number_unfit, syntax, too_deep, too_many_nodes}
+use Rattle.hc_ast.specs.declared.flaw.Flaw.{Flaw}
+use Rattle.hc_ast.specs.declared.flaw.Flaw.TheVariants as wrong
 use Rattle.hc_parse.specs.declared.parsing.ParseStop as parse
 use Rattle.hc_parse.specs.declared.parsing.ParseStop.TheVariants as stop
 use Rattle.hc_modules.specs.declared.flat.ModuleStop as modules
@@ -24,22 +25,22 @@ at_place p message = decimal p.line ++ 58 ∷ decimal p.column ++ 58 ∷ 32 ∷ 
 
 -- what is wrong with a text
 abbrev pub message_of_flaw : Flaw → List ℕ
-message_of_flaw name_too_long = codes "name longer than 64 bytes"
-message_of_flaw number_unfit = codes "number out of range"
-message_of_flaw syntax = codes "syntax"
-message_of_flaw too_deep = codes "nested too deeply"
-message_of_flaw too_many_nodes = codes "expression too long"
+message_of_flaw wrong.NameTooLong = codes "name longer than 64 bytes"
+message_of_flaw wrong.NumberUnfit = codes "number out of range"
+message_of_flaw wrong.Syntax = codes "syntax"
+message_of_flaw wrong.TooDeep = codes "nested too deeply"
+message_of_flaw wrong.TooManyNodes = codes "expression too long"
 
 abbrev pub status_of_stop : parse.ParseStop → ℕ
 status_of_stop stop.Memory = 5
 status_of_stop _ = 1
 
 abbrev pub message_of_stop : parse.ParseStop → List ℕ
-message_of_stop (stop.NameTooLong p) = at_place p (message_of_flaw name_too_long)
-message_of_stop (stop.NumberUnfit p) = at_place p (message_of_flaw number_unfit)
-message_of_stop (stop.Syntax p) = at_place p (message_of_flaw syntax)
-message_of_stop (stop.TooDeep p) = at_place p (message_of_flaw too_deep)
-message_of_stop (stop.TooManyNodes p) = at_place p (message_of_flaw too_many_nodes)
+message_of_stop (stop.NameTooLong p) = at_place p (message_of_flaw wrong.NameTooLong)
+message_of_stop (stop.NumberUnfit p) = at_place p (message_of_flaw wrong.NumberUnfit)
+message_of_stop (stop.Syntax p) = at_place p (message_of_flaw wrong.Syntax)
+message_of_stop (stop.TooDeep p) = at_place p (message_of_flaw wrong.TooDeep)
+message_of_stop (stop.TooManyNodes p) = at_place p (message_of_flaw wrong.TooManyNodes)
 message_of_stop stop.Memory = codes "out of memory"
 
 abbrev pub status_of_module_stop : modules.ModuleStop → ℕ

@@ -3,10 +3,10 @@ use Rattle.std.proofs.Common.{◌≡◌, refl, ap, sym, ◌∙◌, Bool, true, f
 use Rattle.std.proofs.Common.{◌∷◌, ◌++◌, Option, None, Some, IfSome}
 use Rattle.hc_grammar.specs.declared.symbol.Symbol.TheVariants.{Token, Head, Mark}
 use Rattle.hc_grammar.specs.Table.{Symbols, Entry, Takes, Skips, Refuses, Table}
-use Rattle.hc_grammar.specs.Texts.{Text, Did, tokens_of, items_of}
+use Rattle.hc_grammar.specs.Texts.{Text, Did, tokens_of, mark_then, items_of}
 use Rattle.hc_grammar.specs.Derives.{Derives, done, token, mark, takes, skips}
 use Rattle.hc_grammar.specs.Ll1.{takes_by, accepts, fits, IsLl1}
-use Rattle.hc_grammar.specs.Machine.{Taken, with_mark, at_entry, feed}
+use Rattle.hc_grammar.specs.Machine.{Taken, with_mark, with_left, at_entry, feed}
 
 -- whether a token was taken
 abbrev pub is_taken : {X : Type 0} → Option X → Bool
@@ -38,6 +38,10 @@ module _ {K H A B : Type 0} (g : Table K H A B) where
   taken_mark b None = refl
   taken_mark b (Some f) = refl
 
+  taken_left : (m : Option B) (o : Option (Taken K H A B)) → is_taken (with_left m o) ≡ is_taken o
+  taken_left None o = refl
+  taken_left (Some b) o = taken_mark b o
+
   taken_token : (role : A) (ss : Symbols K H A B) (same : Bool) → is_taken (here role ss same) ≡ same
   taken_token role ss true = refl
   taken_token role ss false = refl
@@ -54,8 +58,8 @@ module _ {K H A B : Type 0} (g : Table K H A B) where
   taken-append [] ss k = refl
   taken-append (Token j role ∷ p) ss k = taken_token role (p ++ ss) (g.same j k)
   taken-append (Head h ∷ p) ss k =
-      taken_head (g.entry h k) (p ++ ss) (feed g (p ++ ss) k) (accepts g p k (is_taken (feed g ss k)))
-      (taken-append p ss k)
+      taken_head (g.entry h k) (p ++ ss) (with_left (g.left_out h) (feed g (p ++ ss) k)) (accepts g p k (is_taken (feed g ss k)))
+      (taken_left (g.left_out h) (feed g (p ++ ss) k) ∙ taken-append p ss k)
   taken-append (Mark b ∷ p) ss k = taken_mark b (feed g (p ++ ss) k) ∙ taken-append p ss k
 
   more_head : (row : Entry K H A B) (a b : Bool) → (a ≡ true → b ≡ true)
@@ -99,13 +103,18 @@ module _ {K H A B : Type 0} (g : Table K H A B) where
   fit_mark b None fit = tt
   fit_mark b (Some f) fit = fit
 
+  fit_left : (m : Option B) (o : Option (Taken K H A B))
+      → IfSome o (λ f. Fit g f.rest) → IfSome (with_left m o) (λ f. Fit g f.rest)
+  fit_left None o fit = fit
+  fit_left (Some b) o fit = fit_mark b o fit
+
   module _ (law : IsLl1 g) where
     fit_head : (h : H) (k : K) (ss : Symbols K H A B) (row : Entry K H A B) → g.entry h k ≡ row
         → Fit g (Head h ∷ ss) → IfSome (feed g ss k) (λ f. Fit g f.rest)
-        → IfSome (at_entry row ss (feed g ss k)) (λ f. Fit g f.rest)
+        → IfSome (at_entry row ss (with_left (g.left_out h) (feed g ss k))) (λ f. Fit g f.rest)
     fit_head h k ss (Takes role p) e fit below =
         fit_more p ss (g.follow h) fit.0 (law.fitting h k role p e) fit.1
-    fit_head h k ss Skips e fit below = below
+    fit_head h k ss Skips e fit below = fit_left (g.left_out h) (feed g ss k) below
     fit_head h k ss Refuses e fit below = tt
 
     -- a stack stays fit
@@ -129,13 +138,27 @@ module _ {K H A B T : Type 0} (g : Table K H A B) (kind : T → K) (law : IsLl1 
       begins t (record { marks = b ∷ f.marks; role = f.role; rest = f.rest }) after
       (ap (with_mark b) e) (ap (λ v. Did b ∷ v) split) d
 
+  left_bare : (m : Option B) (w : Text T A B) → tokens_of w ≡ [] → tokens_of (mark_then m w) ≡ []
+  left_bare None w e = e
+  left_bare (Some b) w e = e
+
+  -- a phrase is left out in front of a text that goes on
+  left_begins : (m : Option B) (h : H) (ss : Symbols K H A B) (w : Text T A B) (t : T) (f : Taken K H A B) (after : Text T A B)
+      → feed g (Head h ∷ ss) (kind t) ≡ with_left m (feed g ss (kind t)) → feed g ss (kind t) ≡ Some f
+      → w ≡ items_of f.marks t f.role after → Derives g kind f.rest after → First g kind (Head h ∷ ss) (mark_then m w)
+  left_begins None h ss w t f after skipped e split d = begins t f after (skipped ∙ e) split d
+  left_begins (Some b) h ss w t f after skipped e split d =
+      begins t (record { marks = b ∷ f.marks; role = f.role; rest = f.rest }) after
+      (skipped ∙ ap (with_mark b) e) (ap (λ v. Did b ∷ v) split) d
+
   first_skip : (h : H) (ss : Symbols K H A B) (w : Text T A B) → g.empties h ≡ true → Fit g (Head h ∷ ss)
-      → First g kind ss w → First g kind (Head h ∷ ss) w
-  first_skip h ss w empty fit (bare e) = bare e
+      → First g kind ss w → First g kind (Head h ∷ ss) (mark_then (g.left_out h) w)
+  first_skip h ss w empty fit (bare e) = bare (left_bare (g.left_out h) w e)
   first_skip h ss w empty fit (begins t f after e split d) =
       let follows : g.follow h (kind t) ≡ true = fit.0 (kind t) (ap is_taken e) in
       let skipped = law.apart h (kind t) empty follows in
-      begins t f after (ap (λ row. at_entry row ss (feed g ss (kind t))) skipped ∙ e) split d
+      left_begins (g.left_out h) h ss w t f after
+      (ap (λ row. at_entry row ss (with_left (g.left_out h) (feed g ss (kind t)))) skipped) e split d
 
   pub first : (ss : Symbols K H A B) (w : Text T A B) → Derives g kind ss w → Fit g ss → First g kind ss w
   first _ _ done fit = bare refl
@@ -144,5 +167,5 @@ module _ {K H A B T : Type 0} (g : Table K H A B) (kind : T → K) (law : IsLl1 
   first _ _ (mark {b = b} {ss = ss} {w = w} d) fit = first_mark b ss w (first ss w d fit)
   first _ _ (takes {h = h} {t = t} {role = role} {p = p} {ss = ss} {w = w} e d) fit =
       begins t (record { marks = []; role = role; rest = p ++ ss }) w
-      (ap (λ row. at_entry row ss (feed g ss (kind t))) e) refl d
+      (ap (λ row. at_entry row ss (with_left (g.left_out h) (feed g ss (kind t)))) e) refl d
   first _ _ (skips {h = h} {ss = ss} {w = w} e d) fit = first_skip h ss w e fit (first ss w d fit.1)

@@ -4,7 +4,7 @@ use Rattle.std.proofs.Common.{Option, None, Some, IfSome}
 use Rattle.hc_grammar.specs.declared.symbol.Symbol.TheVariants.{Token, Head, Mark}
 use Rattle.hc_grammar.specs.Table.{Symbols, Entry, Takes, Skips, Refuses, Table}
 use Rattle.hc_grammar.specs.Ends.{wants_last, is_bare, closes_by, EndsBy}
-use Rattle.hc_grammar.specs.Machine.{Taken, with_mark, at_entry, feed}
+use Rattle.hc_grammar.specs.Machine.{Taken, with_mark, with_left, at_entry, feed}
 
 or_neither : (a b : Bool) → a || b ≡ false → (a ≡ false) × (b ≡ false)
 or_neither true b e = absurd (cc)
@@ -34,6 +34,11 @@ module _ {K H A B : Type 0} (g : Table K H A B) (last : K) where
   leaves_mark k b None i = tt
   leaves_mark k b (Some f) i = i
 
+  leaves_left : (k : K) (m : Option B) (o : Option (Taken K H A B))
+      → IfSome o (λ f. Leaves k f.rest) → IfSome (with_left m o) (λ f. Leaves k f.rest)
+  leaves_left k None o i = i
+  leaves_left k (Some b) o i = leaves_mark k b o i
+
   module _ (law : EndsBy g last) where
     leaves_taken : (j k : K) (ss : Symbols K H A B) (ends : Bool) → g.same j last ≡ ends → g.same j k ≡ true
         → cond ends (is_bare ss) (closes_by g last ss) ≡ true → Leaves k ss
@@ -51,12 +56,12 @@ module _ {K H A B : Type 0} (g : Table K H A B) (last : K) where
 
     leaves_head : (h : H) (k : K) (ss : Symbols K H A B) (row : Entry K H A B) → g.entry h k ≡ row
         → closes_by g last ss ≡ true → IfSome (feed g ss k) (λ f. Leaves k f.rest)
-        → IfSome (at_entry row ss (feed g ss k)) (λ f. Leaves k f.rest)
+        → IfSome (at_entry row ss (with_left (g.left_out h) (feed g ss k))) (λ f. Leaves k f.rest)
     leaves_head h k ss (Takes role p) e bottom i = (
       (λ same. absurd (cc (law.never_first h k role p e))),
       (λ _. closes-append p ss (law.never_later h k role p e) ∙ bottom),
     )
-    leaves_head h k ss Skips e bottom i = i
+    leaves_head h k ss Skips e bottom i = leaves_left k (g.left_out h) (feed g ss k) i
     leaves_head h k ss Refuses e bottom i = tt
 
     pub leaves : (k : K) (ss : Symbols K H A B) → closes_by g last ss ≡ true

@@ -12,4 +12,5 @@ pub mod Sure
 pub mod Found
 pub mod Exact
 pub mod Tables
-pub mod Steps
+pub mod Answered
+pub mod OneAnswerLemmas

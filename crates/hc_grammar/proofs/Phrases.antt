@@ -3,7 +3,7 @@ use Rattle.std.proofs.Common.{◌≡◌, refl, subst, true, [], ◌∷◌, ◌++
 use Rattle.hc_grammar.specs.declared.symbol.Symbol.{Symbol}
 use Rattle.hc_grammar.specs.declared.symbol.Symbol.TheVariants.{Token, Head, Mark}
 use Rattle.hc_grammar.specs.Table.{Symbols, Entry, Takes, Skips, Refuses, Table, with_more}
-use Rattle.hc_grammar.specs.Texts.{Text, Read, Did}
+use Rattle.hc_grammar.specs.Texts.{Text, Read, Did, mark_then}
 use Rattle.hc_grammar.specs.Derives.{Derives, done, token, mark, takes, skips}
 
 module _ {K H A B T : Type 0} (g : Table K H A B) (kind : T → K)
@@ -22,10 +22,10 @@ module _ {K H A B T : Type 0} (g : Table K H A B) (kind : T → K)
   Closes h t Skips = Unit {0}
   Closes h t Refuses = Unit {0}
 
-  -- so does each row, and nothing is a phrase that may be empty
+  -- so does each row, and the mark alone is a phrase that is left out
   pub record Closed : Type 0 where
     pub row : (h : H) (t : T) → Closes h t (g.entry h (kind t))
-    pub nothing : (h : H) (w : Text T A B) → g.empties h ≡ true → Phrase h w w
+    pub nothing : (h : H) (w : Text T A B) → g.empties h ≡ true → Phrase h (mark_then (g.left_out h) w) w
 
   -- parts one after another are cut where the symbols are
   pub chain_append : (p q : Symbols K H A B) (w v : Text T A B) → Chain (p ++ q) w v

@@ -8,3 +8,9 @@ pub mod Refusals
 pub mod Language
 pub mod Machine
 pub mod Answers
+pub mod RowOf
+pub mod Taken
+pub mod Remaining
+pub mod Exact
+pub mod Stops
+pub mod OneAnswer

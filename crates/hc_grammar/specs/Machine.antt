@@ -16,6 +16,11 @@ abbrev pub with_mark : {K H A B : Type 0} → B → Option (Taken K H A B) → O
 with_mark b None = None
 with_mark b (Some f) = Some (record { marks = b ∷ f.marks; role = f.role; rest = f.rest })
 
+-- behind the mark in the place of a phrase that is left out, if there is one
+abbrev pub with_left : {K H A B : Type 0} → Option B → Option (Taken K H A B) → Option (Taken K H A B)
+with_left None o = o
+with_left (Some b) o = with_mark b o
+
 -- by a row of the table, with the stack below and what that makes of the token
 abbrev pub at_entry : {K H A B : Type 0} → Entry K H A B → Symbols K H A B → Option (Taken K H A B) → Option (Taken K H A B)
 at_entry (Takes role p) ss below = Some (record { marks = []; role = role; rest = p ++ ss })
@@ -26,7 +31,7 @@ at_entry Refuses ss below = None
 abbrev pub feed : {K H A B : Type 0} → Table K H A B → Symbols K H A B → K → Option (Taken K H A B)
 feed g [] k = None
 feed g (Token j role ∷ ss) k = cond (g.same j k) (Some (record { marks = []; role = role; rest = ss })) None
-feed g (Head h ∷ ss) k = at_entry (g.entry h k) ss (feed g ss k)
+feed g (Head h ∷ ss) k = at_entry (g.entry h k) ss (with_left (g.left_out h) (feed g ss k))
 feed g (Mark b ∷ ss) k = with_mark b (feed g ss k)
 
 -- a refusal of the token where there is one, else what comes next

@@ -38,3 +38,9 @@ module _ {T A B S R : Type 0} (m : Reader T A B S R) (IsText : Text T A B → Ty
     pub parts : ts ≡ front ++ t ∷ after
     pub holds : Holds front t r
     pub first : (a : List T) (x : T) (b : List T) → front ≡ a ++ x ∷ b → (q : R) → Holds a x q → ⊥
+
+  -- and it begins at this place
+  pub record IsRefusedAt {P : Type 0} (place : T → P) (ts : List T) (what : R × P) : Type 0 where
+    pub at : T
+    pub refusal : FirstRefusal ts what.0 at
+    pub place_is : place at ≡ what.1

@@ -1,5 +1,5 @@
 -- A grammar as a table: what a phrase is, once its first token is seen.
-use Rattle.std.specs.Prelude.{Bool, List, ◌++◌}
+use Rattle.std.specs.Prelude.{Bool, List, ◌++◌, Option}
 use Rattle.hc_grammar.specs.declared.symbol.Symbol.{Symbol}
 
 -- kinds of tokens K, heads of phrases H, roles of tokens A, marks between tokens B
@@ -26,5 +26,7 @@ pub record Table (K H A B : Type 0) : Type 0 where
   pub entry : H → K → Entry K H A B
   -- whether the phrase may be empty
   pub empties : H → Bool
+  -- the mark that stands in its place where it is empty, if there is one
+  pub left_out : H → Option B
   -- whether a token of this kind may come right behind the phrase
   pub follow : H → K → Bool

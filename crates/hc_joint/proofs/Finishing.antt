@@ -107,3 +107,6 @@ module _ (now new : Seen) (k : Keeps now) (none : now.stop ≡ None) (turn : Has
 
   pub turn_keeps_recomputed : new.recomputed ≡ now.recomputed
   turn_keeps_recomputed = ap (λ (s : Seen). s.recomputed) turn.after
+
+  pub turn_counts : new.turns ≡ now.turns + 1
+  turn_counts = ap (λ (s : Seen). s.turns) turn.after

@@ -15,4 +15,9 @@ pub mod Meetings
 pub mod Events
 pub mod Kept
 pub mod NextTurn
+pub mod Within
+pub mod Taking
+pub mod Handing
+pub mod Deciding
+pub mod Lent
 pub mod Finishing

@@ -1,5 +1,5 @@
 -- A joint that has done nothing yet, and one that has a turn of its least process.
-use Rattle.std.proofs.Common.{◌≡◌, ◌<◌, refl, sym, ap, subst, ◌∙◌, ℕ, ◌+◌, ◌++◌, true, false, List, [], length, Option, Some, None, is_some, arith}
+use Rattle.std.proofs.Common.{◌≡◌, ◌<◌, ◌≤◌, refl, sym, ap, subst, ◌∙◌, ℕ, ◌+◌, ◌++◌, true, false, List, [], length, Option, Some, None, is_some, arith}
 use Rattle.std.proofs.lemmas.Option.{none-some, slice_get_within}
 use Rattle.hc_limits.specs.Limits.{most_steps}
 use Rattle.hc_rational.specs.Words.{Rational}
@@ -9,7 +9,7 @@ use Rattle.hc_term.specs.declared.run.Stop.{Stop}
 use Rattle.hc_term.specs.declared.model.Configuration.{Configuration}
 use Rattle.hc_term.specs.Step.{opening}
 use Rattle.hc_term.specs.Canonical.{wanting_from}
-use Rattle.hc_runs.specs.Turns.{IsLeast, event_behind, no_turn, one_more, Turns}
+use Rattle.hc_runs.specs.Turns.{WantsAt, IsLeast, event_behind, no_turn, one_more, Turns}
 use Rattle.hc_runs.specs.Laws.{GoesOn}
 use Rattle.hc_runs.proofs.Turning.{least_wants, turns_go_on}
 use Rattle.hc_runs.proofs.Visible.{turns_are_few}
@@ -55,6 +55,45 @@ module _ (s : Scene) (stop : Option Stop) (turns recomputed : ℕ) (m : IsMade s
       let short = goes_on.room in
       omega (arith, few.going refl, short, s.task.in_range.1)
 
+  -- ---- any process that wants a step has the turn
+
+  module _ (p : ℕ) (wants : WantsAt p m.reached) (new : Scene) (set : Option Stop)
+      (comes : (c : Configuration) → IsAt s c → Comes s new (event_behind s.history.items s.task p c) set) where
+    pub made_by_turn : (again : ℕ) → again ≤ 1 → IsMade new set (turns + 1) (recomputed + again)
+    made_by_turn again once =
+        let items = s.history.items in
+        let e = event_behind items s.task p m.reached in
+        let came = comes m.reached m.at in
+        let f = came.follows in
+        let more : Turns s.task (turns + 1) (items ++ e.items) e.end e.stop =
+        one_more turns items m.reached p turns_so_far wants in
+        let stopped : Turns s.task (turns + 1) (items ++ e.items) e.end set =
+        subst (λ (o : Option Stop). Turns s.task (turns + 1) (items ++ e.items) e.end o) (sym came.stop) more in
+        let behind : Turns s.task (turns + 1) new.history.items e.end set =
+        subst (λ (is : List Item). Turns s.task (turns + 1) is e.end set) (sym f.items) stopped in
+        record {
+          reached = e.end;
+          at = f.at;
+          turned = subst (λ (t : Task). Turns t (turns + 1) new.history.items e.end set) (sym f.task) behind;
+          compared = omega (arith, m.compared, once);
+        }
+
+    -- what is seen then: the event is behind the history, and its stop is set
+    pub seen_by_turn : (n r : ℕ) →
+        let e = event_behind s.history.items s.task p m.reached in
+        seen new.task new.clock new.history.items set n r ≡ seen s.task e.end.clock (s.history.items ++ e.items) e.stop n r
+    seen_by_turn n r =
+        let items = s.history.items in
+        let e = event_behind items s.task p m.reached in
+        let came = comes m.reached m.at in
+        let f = came.follows in
+        ap (λ (t : Task). seen t new.clock new.history.items set n r) f.task
+        ∙ ap (λ (q : Rational). seen s.task q new.history.items set n r) f.at.clock
+        ∙ ap (λ (is : List Item). seen s.task e.end.clock is set n r) f.items
+        ∙ ap (λ (o : Option Stop). seen s.task e.end.clock (items ++ e.items) o n r) came.stop
+
+  -- ---- the least process has it
+
   shown_least : least_from 0 s.board.posts ≡ wanting_from 0 m.reached.processes
   shown_least = wanting_is s m.reached m.at (least_from 0 s.board.posts) refl
 
@@ -76,42 +115,19 @@ module _ (s : Scene) (stop : Option Stop) (turns recomputed : ℕ) (m : IsMade s
         (comes : (c : Configuration) → IsAt s c → Comes s new (event_behind s.history.items s.task p c) set) where
       pub made_turn : IsMade new set (turns + 1) recomputed
       made_turn =
-          let items = s.history.items in
-          let e = event_behind items s.task p m.reached in
-          let came = comes m.reached m.at in
-          let f = came.follows in
-          let more : Turns s.task (turns + 1) (items ++ e.items) e.end e.stop =
-          one_more turns items m.reached p turns_so_far (least_wants m.reached p least) in
-          let stopped : Turns s.task (turns + 1) (items ++ e.items) e.end set =
-          subst (λ (o : Option Stop). Turns s.task (turns + 1) (items ++ e.items) e.end o) (sym came.stop) more in
-          let behind : Turns s.task (turns + 1) new.history.items e.end set =
-          subst (λ (is : List Item). Turns s.task (turns + 1) is e.end set) (sym f.items) stopped in
-          record {
-            reached = e.end;
-            at = f.at;
-            turned = subst (λ (t : Task). Turns t (turns + 1) new.history.items e.end set) (sym f.task) behind;
-            compared = omega (arith, m.compared);
-          }
+          let same : recomputed + 0 ≡ recomputed = omega arith in
+          subst (λ (r : ℕ). IsMade new set (turns + 1) r) same
+          (made_by_turn p (least_wants m.reached p least) new set comes 0 (omega arith))
 
       has_turn : HasTurn (seen s.task s.clock s.history.items stop turns recomputed)
           (seen new.task new.clock new.history.items set (turns + 1) recomputed)
-      has_turn =
-          let items = s.history.items in
-          let e = event_behind items s.task p m.reached in
-          let came = comes m.reached m.at in
-          let f = came.follows in
-          let n = turns + 1 in
-          record {
-            before = m.reached;
-            is_reached = record { leads = m.at.leads; clock = m.at.clock };
-            process = p;
-            least = least;
-            after =
-                ap (λ (t : Task). seen t new.clock new.history.items set n recomputed) f.task
-                ∙ ap (λ (q : Rational). seen s.task q new.history.items set n recomputed) f.at.clock
-                ∙ ap (λ (is : List Item). seen s.task e.end.clock is set n recomputed) f.items
-                ∙ ap (λ (o : Option Stop). seen s.task e.end.clock (items ++ e.items) o n recomputed) came.stop;
-          }
+      has_turn = record {
+        before = m.reached;
+        is_reached = record { leads = m.at.leads; clock = m.at.clock };
+        process = p;
+        least = least;
+        after = seen_by_turn p (least_wants m.reached p least) new set comes (turns + 1) recomputed;
+      }
 
       pub goes_forward : (old : Seen) → seen s.task s.clock s.history.items stop turns recomputed ≡ old →
           GoesForward old.stop old (seen new.task new.clock new.history.items set (turns + 1) recomputed) true

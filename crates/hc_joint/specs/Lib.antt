@@ -4,3 +4,6 @@ pub mod States
 pub mod Stands
 pub mod Parts
 pub mod Keeps
+pub mod Judging
+pub mod Handed
+pub mod Lending

@@ -37,7 +37,7 @@ fn push_quiet(history: &mut Vec<Item>, clock: Frac, process: u32, count: u32)
 }
 
 /// Puts the steps of a stretch behind the history, each with the value that it logged.
-fn append(history: &mut Vec<Item>, clock: Frac, process: u32, stretch: &Stretch)
+pub(crate) fn append(history: &mut Vec<Item>, clock: Frac, process: u32, stretch: &Stretch)
     requires counted { length (logs_of stretch.now) ≡ stretch.now.steps }
     requires room { vec_len history.old + stretch.now.steps ≤ vec_capacity history.old }
     ensures items { history.new.items ≡ history.old.items ++ silent_items clock process (logs_of stretch.now) }
@@ -136,7 +136,7 @@ impl Scene {
     // ---- the event
 
     /// What follows a stretch of a process that ended so.
-    fn go_on(&mut self, process: u32, end: StretchEnd) -> Option<Stop>
+    pub(crate) fn go_on(&mut self, process: u32, end: StretchEnd) -> Option<Stop>
         requires at { IsSomewhere self.old }
         ensures { (c : Configuration) → IsAt self.old c →
             Comes self.old self.new (second_part (room self.old) self.old.task process c end) result }

@@ -4,6 +4,8 @@ ghost use Rattle.std.specs.Prelude.{◌≡◌};
 
 use crate::scene::Scene;
 use crate::shown::{least_able, wants_step_at};
+use crate::turn::Turn;
+use hc_advance::Advance;
 use hc_frac::Frac;
 use hc_term::{Item, Stop, Task};
 use std::alloc::{AllocError, Global};
@@ -37,10 +39,13 @@ impl Model for Joint {
 }
 
 impl Joint {
-    ghost use Rattle.std.specs.Prelude.{IfOk, IsTrue, IsSome, None};
+    ghost use Rattle.std.specs.Prelude.{◌+◌, ◌≤◌, IfOk, IsTrue, IsSome, None, if◌then◌else◌};
     ghost use Rattle.hc_term.specs.declared.model.Configuration.{Configuration};
     ghost use Rattle.hc_joint.specs.Able.{is_able};
     ghost use Rattle.hc_joint.specs.Keeps.{Keeps, IsReached, opened, GoesForward, IsFinished};
+    ghost use Rattle.hc_runs.specs.Turns.{event_behind};
+    ghost use Rattle.hc_joint.specs.Judging.{is_made};
+    ghost use Rattle.hc_joint.specs.Handed.{Leases, Answers, state_after};
 
     /// The opening of the task, with room for a history of as many items as its limit allows.
     pub fn open(alloc: Global, task: Task) -> Result<Joint, AllocError>
@@ -105,6 +110,42 @@ impl Joint {
         wants_step_at(self.scene.board.posts(), process)
     }
 
+    /// Lends to the advance what is kept of the process: the advance starts there then, and isn't worked. False where a stop
+    /// stands, the process has no silent step, or the advance has another code; then nothing changes.
+    pub fn lease(&self, process: u32, advance: &mut Advance) -> bool
+        ensures { (c : Configuration) → IsReached self.now c → Leases self.now process c advance.old advance.new result }
+    {
+        if self.stop.is_some() {
+            return false;
+        }
+        if !wants_step_at(self.scene.board.posts(), process) {
+            return false;
+        }
+        self.scene.lend(process, advance)
+    }
+
+    /// One turn of the process, with the steps of the advance where they may be taken, else with steps that are worked out
+    /// here. Nothing changes where a stop stands or the process has no silent step.
+    pub fn turn(&mut self, process: u32, advance: &Advance) -> Turn
+        ensures answer { (c : Configuration) → IsReached self.old c → Answers self.old process c advance.now result }
+        ensures state { (c : Configuration) → IsReached self.old c →
+            self.new ≡ state_after self.old (event_behind self.old.history self.old.task process c) result }
+        ensures task { self.new.task ≡ self.old.task }
+        ensures turns { self.new.turns ≡ (if is_made result then self.old.turns + 1 else self.old.turns) }
+    {
+        if self.stop.is_some() {
+            return Turn::Stopped;
+        }
+        if !wants_step_at(self.scene.board.posts(), process) {
+            return Turn::NotAble;
+        }
+        let (turn, stop) = self.scene.event_with(process, advance);
+        self.stop = stop;
+        self.turns += 1;
+        self.recomputed += turn.again();
+        turn
+    }
+
     /// One turn of the least process that wants a silent step. False exactly where a stop stood, and then nothing changes.
     pub fn forward(&mut self) -> bool
         ensures { GoesForward self.old.stop self.old self.new result }
@@ -125,6 +166,7 @@ impl Joint {
         ensures stopped { IsSome self.new.stop }
         ensures finished { IsFinished self.old.stop self.old self.new }
         ensures same { (self.new.task ≡ self.old.task) × (self.new.recomputed ≡ self.old.recomputed) }
+        ensures grown { self.old.turns ≤ self.new.turns }
     {
         while self.stop.is_none() {
             self.forward();

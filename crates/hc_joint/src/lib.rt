@@ -3,10 +3,13 @@
 
 mod delay;
 mod event;
+mod handed;
 mod joint;
 mod member;
 mod members;
 mod scene;
 mod shown;
+mod turn;
 
 pub use joint::Joint;
+pub use turn::Turn;

@@ -3,6 +3,7 @@
 ghost use Rattle.std.specs.Prelude.{◌<◌, length, IsTrue};
 ghost use Rattle.hc_step.specs.Usable.{is_usable_code};
 
+use hc_advance::Advance;
 use hc_code::{ProcCode, compile};
 use hc_frac::Frac;
 use hc_step::{Local, Stretch, code_laws};
@@ -19,8 +20,8 @@ pub(crate) struct Member {
 }
 
 impl Member {
-    ghost use Rattle.std.specs.Prelude.{◌≡◌, ◌≢◌, ◌≤◌, ℕ, IfOk, IfSome, None, true};
-    ghost use Rattle.hc_limits.specs.Limits.{most_statements};
+    ghost use Rattle.std.specs.Prelude.{◌≡◌, ◌≢◌, ◌≤◌, ◌↔◌, ℕ, IfOk, IfSome, Some, None, true};
+    ghost use Rattle.hc_limits.specs.Limits.{most_statements, most_silent_steps};
     ghost use Rattle.hc_rational.specs.Words.{Rational, zero_ℚ, ◌+ℚ◌, ◌≤ℚ◌};
     ghost use Rattle.hc_term.specs.declared.model.ProcessState.{ProcessState};
     ghost use Rattle.hc_term.specs.Rules.{is_process, body_statements};
@@ -29,7 +30,10 @@ impl Member {
     ghost use Rattle.hc_term.specs.Communication.{sent, received, moved};
     ghost use Rattle.hc_term.specs.Step.{opening_of};
     ghost use Rattle.hc_term.specs.Event.{progress};
+    ghost use Rattle.hc_advance.specs.Lead.{StartsAt, steps_of};
     ghost use Rattle.hc_joint.specs.States.{IsIn, Progresses};
+    ghost use Rattle.hc_joint.specs.Handed.{HasSteps};
+    ghost use Rattle.hc_joint.specs.Lending.{kept, Lends};
 
     /// The process of this number at its opening.
     pub(crate) fn open(alloc: Global, process: &Process, number: u32) -> Result<Member, AllocError>
@@ -85,5 +89,35 @@ impl Member {
             IsIn p (clock +ℚ by) self.new (moved by q) }
     {
         self.local.move_by(by);
+    }
+
+    // ---- steps that are worked out beside it
+
+    /// Lends what is kept to an advance of the same code: it starts here then, and isn't worked.
+    pub(crate) fn lend(&self, clock: Frac, seed: u64, advance: &mut Advance) -> bool
+        ensures { Lends (kept self.now) clock seed advance.old advance.new result }
+    {
+        if !advance.has_code(&self.code) {
+            return false;
+        }
+        advance.begin(&self.local, clock, seed);
+        true
+    }
+
+    /// Whether the advance starts from what is kept, at this clock and with this seed.
+    pub(crate) fn is_start_of(&self, advance: &Advance, clock: Frac, seed: u64) -> bool
+        ensures { IsTrue result ↔ StartsAt advance.now self.now.code self.now.local clock seed }
+    {
+        advance.starts_at(&self.code, &self.local, clock, seed)
+    }
+
+    /// Takes the steps of a worked advance that starts here.
+    pub(crate) fn take_over(&mut self, advance: &Advance) -> Stretch
+        requires { (clock : Rational) × (seed : ℕ) × (steps : ℕ) × HasSteps (kept self.old) clock seed advance.now steps }
+        ensures steps { steps_of advance.now.worked ≡ Some result.steps }
+        ensures takes { (p : ℕ) (q : ProcessState) → IsIn p advance.now.clock self.old q →
+            Progresses p advance.now.clock result self.new (progress most_silent_steps advance.now.seed p advance.now.clock q) }
+    {
+        advance.hand_over(&mut self.local)
     }
 }

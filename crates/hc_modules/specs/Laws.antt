@@ -1,5 +1,5 @@
 -- What holds of all trees.
-use Rattle.std.specs.Prelude.{◌≡◌}
+use Rattle.std.specs.Prelude.{◌≡◌, ◌⊎◌}
 use Rattle.hc_ast.specs.declared.tree.Tree.{Tree}
 use Rattle.hc_modules.specs.declared.flat.Flat.{Flat}
 use Rattle.hc_modules.specs.declared.flat.ModuleStop.{ModuleStop}
@@ -16,3 +16,7 @@ OneRefusal = (t : Tree) (r s : ModuleStop) → IsRefused t r → IsRefused t s �
 -- a tree with an expansion isn't refused
 abbrev pub ExpandedIsNotRefused : Type 0
 ExpandedIsNotRefused = (t : Tree) (f : Flat) (s : ModuleStop) → IsExpansion t f → IsRefused t s → ⊥
+
+-- each tree has an expansion or is refused; with the three laws above, exactly one of the two, and in one way
+abbrev pub EveryTreeIsOne : Type 0
+EveryTreeIsOne = (t : Tree) → ((f : Flat) × IsExpansion t f) ⊎ ((s : ModuleStop) × IsRefused t s)

@@ -1,10 +1,5 @@
-pub mod Symbols
-pub mod Rows
-pub mod RowOf
-pub mod Table
 pub mod Builder
 pub mod Language
 pub mod Counted
-pub mod Remaining
 pub mod Stops
 pub mod Laws

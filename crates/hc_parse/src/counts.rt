@@ -4,18 +4,8 @@ ghost use Rattle.std.specs.Prelude.{◌≡◌, ◌≤◌, OnOk, IfErr};
 ghost use Rattle.hc_limits.specs.Limits.{most_open_items, most_nodes};
 ghost use Rattle.hc_ast.specs.Counts as spec;
 
-use hc_ast::{Mark, Role};
+use hc_ast::{Flaw, Mark, Role};
 use hc_limits::{MOST_NODES, MOST_OPEN_ITEMS};
-
-/// What may be wrong with a token.
-#[derive(Clone, Copy, Debug, PartialEq, Eq)]
-pub(crate) enum Flaw {
-    NameTooLong,
-    NumberUnfit,
-    Syntax,
-    TooDeep,
-    TooManyNodes,
-}
 
 /// Open items, and the nodes of the outermost expression or condition so far.
 #[derive(Clone, Copy, Debug)]
@@ -27,7 +17,7 @@ pub(crate) struct Counts {
 }
 
 impl Counts {
-    ghost use Rattle.hc_parse.specs.Counted.{counted, flaw_of};
+    ghost use Rattle.hc_parse.specs.Counted.{counted};
 
     /// Before the first token.
     pub(crate) fn new() -> Self
@@ -43,7 +33,7 @@ impl Counts {
     pub(crate) fn token(&mut self, role: Role) -> Result<(), Flaw>
         ensures ok { OnOk result (counted self.new ≡ spec.after_token role (counted self.old)) }
         ensures within { OnOk result (spec.beyond role (counted self.old) ≡ None) }
-        ensures err { IfErr result (λ flaw. spec.beyond role (counted self.old) ≡ Some (flaw_of flaw)) }
+        ensures err { IfErr result (λ flaw. spec.beyond role (counted self.old) ≡ Some flaw) }
     {
         let opens = matches!(role, Role::Prefix | Role::Begin | Role::Open);
         let is_node = matches!(role, Role::Leaf | Role::Operator | Role::Prefix);

@@ -3,14 +3,12 @@
 
 mod counts;
 mod expr_marks;
-mod head;
 mod laws;
 mod marks;
 mod parsing;
-mod reading;
-mod rows;
 mod source_marks;
 mod stmt_marks;
+mod text;
 mod values;
 
 pub use laws::text_laws;

@@ -1,17 +1,13 @@
 //! Parsing.
 
-ghost use Rattle.std.specs.Prelude.{◌≡◌, ◌≤◌, ℕ, length, IfOk, IfErr};
+ghost use Rattle.std.specs.Prelude.{◌≡◌, ◌≤◌, length};
 ghost use Rattle.hc_limits.specs.Limits.{most_source_bytes};
-ghost use Rattle.hc_frac.specs.declared.place.Place.{Place as At};
-ghost use Rattle.hc_ast.specs.declared.tree.Tree.{Tree as Said};
-ghost use Rattle.hc_ast.specs.Counts.{Flaw as Wrong};
-ghost use Rattle.hc_ast.specs.Source.{IsSource, IsRefused};
 ghost use Rattle.hc_parse.specs.Stops as spec;
 
-use crate::counts::Flaw;
-use crate::reading::{Fault, Reading};
-use hc_ast::Tree;
+use crate::text::SourceText;
+use hc_ast::{Flaw, Tree};
 use hc_frac::Place;
+use hc_grammar::{Stop, read};
 use hc_token::Scanner;
 use std::alloc::Global;
 
@@ -32,40 +28,30 @@ pub enum ParseStop {
     Memory,
 }
 
-/// What the fault of a token at this place stops parsing with.
-fn stop_of(fault: Fault, place: Place) -> ParseStop
-    ensures { result ≡ spec.stop_of fault place }
+/// What parsing stops with where reading stops with this.
+fn stop_of(stop: Stop<Flaw>) -> ParseStop
+    ensures { result ≡ spec.stop_of stop }
 {
-    match fault {
-        Fault::Flaw(Flaw::NameTooLong) => ParseStop::NameTooLong { place },
-        Fault::Flaw(Flaw::NumberUnfit) => ParseStop::NumberUnfit { place },
-        Fault::Flaw(Flaw::Syntax) => ParseStop::Syntax { place },
-        Fault::Flaw(Flaw::TooDeep) => ParseStop::TooDeep { place },
-        Fault::Flaw(Flaw::TooManyNodes) => ParseStop::TooManyNodes { place },
-        Fault::Memory => ParseStop::Memory,
+    match stop {
+        Stop::Refused { flaw, place } => match flaw {
+            Flaw::NameTooLong => ParseStop::NameTooLong { place },
+            Flaw::NumberUnfit => ParseStop::NumberUnfit { place },
+            Flaw::Syntax => ParseStop::Syntax { place },
+            Flaw::TooDeep => ParseStop::TooDeep { place },
+            Flaw::TooManyNodes => ParseStop::TooManyNodes { place },
+        },
+        Stop::Memory => ParseStop::Memory,
     }
 }
 
 /// The tree of a text, or the first place at which the text is no source, and why.
 pub fn parse(alloc: Global, bytes: &[u8]) -> Result<Tree, ParseStop>
     requires { length bytes.now ≤ most_source_bytes }
-
-    // An answer is right.
-    ensures tree { IfOk result (IsSource bytes.now) }
-    ensures refusal { IfErr result (spec.IsStop bytes.now) }
-
-    // And what is right is the answer, unless memory runs out.
-    ensures every_tree { (t : Said) → IsSource bytes.now t → spec.IsTreeOrMemory t result }
-    ensures every_refusal { (flaw : Wrong) (place : At) → IsRefused bytes.now flaw place → spec.IsStopOrMemory flaw place result }
+    ensures { spec.IsExact bytes.now result }
 {
-    let Ok(mut reading) = Reading::new(alloc) else {
-        return Err(ParseStop::Memory);
-    };
-    for token in Scanner::new(bytes) {
-        let place = token.place;
-        if let Err(fault) = reading.take(alloc, token) {
-            return Err(stop_of(fault, place));
-        }
+    let mut tokens = Scanner::new(bytes);
+    match read(alloc, SourceText::new(alloc), &mut tokens) {
+        Ok(text) => Ok(text.values.tree()),
+        Err(stop) => Err(stop_of(stop)),
     }
-    Ok(reading.finish())
 }

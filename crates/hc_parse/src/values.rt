@@ -14,6 +14,10 @@ use hc_token::{Content, Kind, Token};
 use std::alloc::{AllocError, Global};
 
 /// The parts that wait for the part that holds them.
+///
+/// A mark takes the parts that it joins off these stacks. A text that the table derives never finds
+/// a stack empty then (`proofs/Built`); at an empty one nothing more is done, and so the functions at
+/// marks go back without a word there. It is no error that is swallowed.
 #[derive(Drop)]
 pub(crate) struct Values {
     pub(crate) exprs: Stack<ExprTree>,

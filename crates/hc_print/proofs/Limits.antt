@@ -10,7 +10,9 @@ use Rattle.hc_ast.specs.declared.role.Role.TheVariants as r
 use Rattle.hc_ast.specs.declared.role.Mark.{Mark}
 use Rattle.hc_ast.specs.declared.role.Mark.TheVariants as m
 use Rattle.hc_ast.specs.Leaves.{Spelled}
-use Rattle.hc_ast.specs.Counts.{Counts, Flaw, too_deep, too_many_nodes, after_token, after_mark, beyond, reader}
+use Rattle.hc_ast.specs.declared.flaw.Flaw.{Flaw}
+use Rattle.hc_ast.specs.declared.flaw.Flaw.TheVariants.{TooDeep, TooManyNodes}
+use Rattle.hc_ast.specs.Counts.{Counts, after_token, after_mark, beyond, reader}
 use Rattle.hc_print.proofs.Phrases.{IsFit}
 use Rattle.hc_print.proofs.Sound.{IsSound, AllSound}
 use Rattle.hc_print.proofs.Walking.{Room, open_behind, nodes_behind, open_at, nodes_at, Walks}
@@ -39,24 +41,24 @@ under most n h = grind (arith, nat_tests)
 
 none_beyond : (role : Role) (d n : ℕ) → Room role d n → beyond role (at_counts d n) ≡ None
 none_beyond r.Prefix d n (i, j) =
-    passes (nat_le 64 d) too_deep (limit (nat_le 200 n) too_many_nodes None) (below 64 d i)
-    (passes (nat_le 200 n) too_many_nodes None (below 200 n j) refl)
-none_beyond r.Begin d n i = passes (nat_le 64 d) too_deep None (below 64 d i) refl
-none_beyond r.Open d n i = passes (nat_le 64 d) too_deep None (below 64 d i) refl
-none_beyond r.Leaf d n j = passes (nat_le 200 n) too_many_nodes None (below 200 n j) refl
-none_beyond r.Operator d n j = passes (nat_le 200 n) too_many_nodes None (below 200 n j) refl
+    passes (nat_le 64 d) TooDeep (limit (nat_le 200 n) TooManyNodes None) (below 64 d i)
+    (passes (nat_le 200 n) TooManyNodes None (below 200 n j) refl)
+none_beyond r.Begin d n i = passes (nat_le 64 d) TooDeep None (below 64 d i) refl
+none_beyond r.Open d n i = passes (nat_le 64 d) TooDeep None (below 64 d i) refl
+none_beyond r.Leaf d n j = passes (nat_le 200 n) TooManyNodes None (below 200 n j) refl
+none_beyond r.Operator d n j = passes (nat_le 200 n) TooManyNodes None (below 200 n j) refl
 none_beyond r.Plain d n j = refl
 none_beyond r.Keep d n j = refl
 none_beyond r.Close d n j = refl
 
 has_room : (role : Role) (d n : ℕ) → beyond role (at_counts d n) ≡ None → Room role d n
 has_room r.Prefix d n e =
-    let p = passed (nat_le 64 d) too_deep (limit (nat_le 200 n) too_many_nodes None) e in
-    (under 64 d p.0, under 200 n (passed (nat_le 200 n) too_many_nodes None p.1).0)
-has_room r.Begin d n e = under 64 d (passed (nat_le 64 d) too_deep None e).0
-has_room r.Open d n e = under 64 d (passed (nat_le 64 d) too_deep None e).0
-has_room r.Leaf d n e = under 200 n (passed (nat_le 200 n) too_many_nodes None e).0
-has_room r.Operator d n e = under 200 n (passed (nat_le 200 n) too_many_nodes None e).0
+    let p = passed (nat_le 64 d) TooDeep (limit (nat_le 200 n) TooManyNodes None) e in
+    (under 64 d p.0, under 200 n (passed (nat_le 200 n) TooManyNodes None p.1).0)
+has_room r.Begin d n e = under 64 d (passed (nat_le 64 d) TooDeep None e).0
+has_room r.Open d n e = under 64 d (passed (nat_le 64 d) TooDeep None e).0
+has_room r.Leaf d n e = under 200 n (passed (nat_le 200 n) TooManyNodes None e).0
+has_room r.Operator d n e = under 200 n (passed (nat_le 200 n) TooManyNodes None e).0
 has_room r.Plain d n e = tt
 has_room r.Keep d n e = tt
 has_room r.Close d n e = tt

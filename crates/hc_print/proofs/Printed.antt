@@ -10,8 +10,8 @@ use Rattle.hc_token.specs.declared.token.Token.{Token}
 use Rattle.hc_token.specs.Kinds.{keyword, keywords, sign, signs}
 use Rattle.hc_token.specs.Words as words
 use Rattle.hc_token.specs.Pieces.{piece}
-use Rattle.hc_token.specs.Tokens.{after, token_at, with_piece, tokens_from}
-use Rattle.hc_token.proofs.Passing.{piece_passed}
+use Rattle.hc_token.specs.Tokens.{after, token_at, end, with_piece, tokens_from}
+use Rattle.hc_scan.proofs.Passing.{piece_passed}
 use Rattle.hc_print.specs.Lexemes.{Lexeme, fixed}
 use Rattle.hc_print.specs.Written.{token_text}
 use Rattle.hc_print.proofs.Saying.{Is}
@@ -35,7 +35,7 @@ pub one_token : (x z : List ℕ) (l : words.Lexeme) (p : Place) → 0 < length x
 one_token x z l p some n is =
     let whole = x ++ 32 ∷ z in
     let has : 0 < length whole = simp length-append (omega arith) in
-    piece_passed p whole has (rw n (omega arith))
+    piece_passed piece token_at end p whole has (rw n (omega arith))
     ∙ ap (λ o. with_piece p o (tokens_from 0 (fold after p (take (piece whole).len whole)) (drop (piece whole).len whole))) is
     ∙ ap (λ k. token_at p l ∷ tokens_from 0 (fold after p (take k whole)) (drop k whole)) n
     ∙ ap (λ y. token_at p l ∷ tokens_from 0 (fold after p (take (length x) whole)) y) (drop-append_seam x (32 ∷ z))

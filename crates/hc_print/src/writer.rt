@@ -5,7 +5,7 @@ ghost use Rattle.hc_print.specs.Lexemes.{fixed, named, rated, numbered, only_if}
 ghost use Rattle.hc_print.specs.Numerals as numerals;
 ghost use Rattle.hc_print.specs.Appends.{Appends, Writes};
 
-use crate::sign::{blank, text};
+use crate::sign::blank;
 use hc_frac::{Decimal, Name};
 use hc_token::Kind;
 use itoa::Buffer;
@@ -23,7 +23,7 @@ impl Writer {
     pub(crate) fn sign(&mut self, kind: Kind) -> Result<(), AllocError>
         ensures { OnOk result (Writes self.old self.new (λ w. fixed kind ∷ w)) }
     {
-        self.text(text(kind))?;
+        self.text(kind.text())?;
         self.byte(blank(kind))
     }
 

@@ -12,8 +12,8 @@ use Rattle.hc_term.specs.Canonical.{Course, canonical}
 use Rattle.hc_term.specs.TraceText.{line_of_step, lines, text, header, end_line}
 use Rattle.hc_world.specs.States.{SinkState}
 use Rattle.hc_world.specs.Sinks.{IsCut}
-use Rattle.hc_world.specs.Pieces.{IsBegun, IsUnderWay}
-use Rattle.hc_world.proofs.PieceLemmas.{begun_more, begun_whole, cut_at_piece, under_way_piece, under_way_start}
+use Rattle.hc_world.specs.Pieces.{IsBegun, IsUnderWay, PutsPiece}
+use Rattle.hc_world.proofs.PieceLemmas.{begun_more, begun_whole, cut_at_piece, under_way_start}
 use Rattle.hc_runs.specs.Turns.{LeastTurns, one_more, no_turn, event_behind}
 use Rattle.hc_runs.proofs.Turning.{turns_are_run}
 use Rattle.hc_runs.proofs.LeastTurns.{least_turns_are_turns, least_turns_begin, least_turns_are_canonical}
@@ -33,8 +33,11 @@ pub record OnCourse (s : Seen) : Type 0 where
   pub is_reached : IsReached s reached
   pub least : LeastTurns s.task s.turns s.history reached s.stop
 
-pub opened_on_course : (t : Task) → OnCourse (opened t)
+opened_on_course : (t : Task) → OnCourse (opened t)
 opened_on_course t = record { reached = _; is_reached = record { leads = refl; clock = refl }; least = no_turn }
+
+pub untouched_on_course : (s : Seen) → s ≡ opened s.task → OnCourse s
+untouched_on_course s e = subst OnCourse (sym e) (opened_on_course s.task)
 
 pub turn_on_course : (s new : Seen) → s.stop ≡ None → OnCourse s → HasTurn s new → OnCourse new
 turn_on_course s new going o h =
@@ -165,14 +168,13 @@ module _ {O : Type 0} (state : O → SinkState) (before : O) where
     pub begun : IsBegun state before now (text s.task.system s.history)
     pub told : (s ≡ opened s.task) ⊎ IsToldUpTo state before s
 
-  pub along_from : (now : O) (s : Seen) → s ≡ opened s.task → IsBegun state before now header → IsAlong now s
-  along_from now s e b =
-      subst (λ (x : Seen). IsAlong now x) (sym e) (record {
-        course = opened_on_course s.task;
-        stop_in_range = λ stop never. absurd (none stop never);
-        begun = b;
-        told = inl refl;
-      })
+  pub along_from : (now : O) (s : Seen) → s ≡ opened s.task → IsBegun state before now (text s.task.system s.history) → IsAlong now s
+  along_from now s e b = record {
+    course = untouched_on_course s e;
+    stop_in_range = λ stop is. absurd (none stop (sym (ap (λ (x : Seen). x.stop) e) ∙ is));
+    begun = b;
+    told = inl e;
+  }
     where
       none : (stop : Stop) → (let n : Option Stop = None in n) ≡ Some stop → ⊥
       none stop never = cc
@@ -237,12 +239,15 @@ module _ {O : Type 0} (state : O → SinkState) (before : O) where
         record { begins = begins new course; told = inr (told_before s new h.1 now a.begun) },
       )
 
-  -- before the first line there is nothing to be cut
+  -- the text is cut before the first turn
+  pub cut_in_text : (now : O) (s : Seen) → s ≡ opened s.task → IsCut state before now (text s.task.system s.history) →
+      IsCut state before now (canonical_text s.task)
+  cut_in_text now s e cut =
+      let b = text_begins s (untouched_on_course s e) in
+      cut_at_piece b.0 b.1 (under_way_start state before (canonical_text s.task)) cut
+
   pub cut_at_start : (s : Seen) → s ≡ opened s.task → IsCutShort state before s
-  cut_at_start s e = record {
-    begins = subst (λ (x : Seen). BeginsCanonical x) (sym e) ((canonical s.task).items, refl);
-    told = inl e;
-  }
+  cut_at_start s e = record { begins = begins s (untouched_on_course s e); told = inl e }
 
   -- where this stop stands, and the end line is what is left
   pub record IsAtEnd (now : O) (s : Seen) (stop : Stop) : Type 0 where
@@ -337,22 +342,20 @@ module _ {O : Type 0} (state : O → SinkState) (before : O) where
   pub some_text : (s : Seen) (stop : Stop) → s.stop ≡ Some stop → history_text s ≢ []
   some_text s stop e none = absurd (let wrong : text s.task.system s.history ++ end_line s.task.system s.clock stop ≡ [] = sym (told_text s stop e) ∙ none in cc)
 
-  header_first : (s : Seen) (stop : Stop) → s.stop ≡ Some stop →
-      history_text s ≡ header ++ (lines s.task.system s.history ++ end_line s.task.system s.clock stop)
-  header_first s stop e =
-      told_text s stop e ∙ append_assoc header (lines s.task.system s.history) (end_line s.task.system s.clock stop)
+  pub cut_in_history : (now : O) (s : Seen) (stop : Stop) → s.stop ≡ Some stop → IsCut state before now (text s.task.system s.history) →
+      IsCut state before now (history_text s)
+  cut_in_history now s stop e cut = cut_at_piece _ (told_text s stop e) (under_way_start state before (history_text s)) cut
 
-  header_stands : (now : O) (s : Seen) (stop : Stop) → s.stop ≡ Some stop → IsBegun state before now header →
-      IsUnderWay state before now (history_text s) (lines s.task.system s.history ++ end_line s.task.system s.clock stop)
-  header_stands now s stop e b = record { done = header; split = header_first s stop e; begun = b }
+  pub end_is_left : (now : O) (s : Seen) (stop : Stop) → s.stop ≡ Some stop → IsBegun state before now (text s.task.system s.history) →
+      IsUnderWay state before now (history_text s) (end_line s.task.system s.clock stop)
+  end_is_left now s stop e b = record { done = text s.task.system s.history; split = told_text s stop e; begun = b }
 
-  pub cut_in_header : (now : O) (s : Seen) (stop : Stop) → s.stop ≡ Some stop → IsCut state before now header → IsCut state before now (history_text s)
-  cut_in_header now s stop e cut = cut_at_piece _ (header_first s stop e) (under_way_start state before (history_text s)) cut
+  -- the header, and behind it the lines of the steps
+  pub cut_in_header : (now : O) (sys : System) (items : List Item) → IsCut state before now header → IsCut state before now (text sys items)
+  cut_in_header now sys items cut = cut_at_piece (lines sys items) refl (under_way_start state before (text sys items)) cut
 
-  pub cut_in_lines : (now after : O) (s : Seen) (stop : Stop) → s.stop ≡ Some stop → IsBegun state before now header →
-      IsCut state now after (lines s.task.system s.history) → IsCut state before after (history_text s)
-  cut_in_lines now after s stop e b cut = cut_at_piece _ refl (header_stands now s stop e b) cut
-
-  pub end_is_left : (now after : O) (s : Seen) (stop : Stop) → s.stop ≡ Some stop → IsBegun state before now header →
-      IsBegun state now after (lines s.task.system s.history) → IsUnderWay state before after (history_text s) (end_line s.task.system s.clock stop)
-  end_is_left now after s stop e b more = under_way_piece _ refl (header_stands now s stop e b) more
+  pub lines_follow : {T E : Type 0} (now after : O) (sys : System) (items : List Item) (r : Result T E) → IsBegun state before now header →
+      PutsPiece state now after r (lines sys items) → PutsPiece state before after r (text sys items)
+  lines_follow now after sys items (Ok x) b puts = begun_more b puts
+  lines_follow now after sys items (Err e) b puts =
+      cut_at_piece [] (sym (append-nil (lines sys items))) (record { done = header; split = refl; begun = b }) puts

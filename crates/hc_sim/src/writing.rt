@@ -1,10 +1,11 @@
 //! The text of a history, line by line.
 
 ghost use Rattle.std.specs.Prelude.{◌≢◌, ℕ, List, [], IsSome};
-ghost use Rattle.hc_term.specs.TraceText.{line_of_step, lines, end_line as line_of_end};
+ghost use Rattle.hc_term.specs.TraceText.{line_of_step, lines, text, end_line as line_of_end};
 ghost use Rattle.hc_world.specs.Pieces.{IsUnderWay, PutsPiece};
 ghost use Rattle.hc_world.specs.Sinks.{PutsWhole};
 ghost use Rattle.hc_trace.specs.InRange.{AreInRange, StepInRange, StopInRange};
+ghost use Rattle.hc_joint.specs.Keeps.{Keeps};
 ghost use Rattle.hc_sim.specs.Told.{history_text};
 
 use hc_frac::Frac;
@@ -35,6 +36,16 @@ pub(crate) fn put_lines<O: Sink>(system: &System, items: &[Item], out: &mut O) -
     Ok(())
 }
 
+/// Writes the header, and a line for each visible step of the history.
+pub(crate) fn put_text<O: Sink>(joint: &Joint, out: &mut O) -> Result<(), Failed>
+    ensures keeps { Keeps joint.now }
+    ensures puts { PutsPiece O.state out.old out.new result (text joint.now.task.system joint.now.history) }
+{
+    let history = joint.history();
+    put_piece(out, HEADER)?;
+    put_lines(&joint.task().system, history, out)
+}
+
 /// Writes the end line with the stop and the clock reached, and flushes the text that it ends.
 pub(crate) fn put_stop<O: Sink>(
     system: &System,
@@ -43,9 +54,9 @@ pub(crate) fn put_stop<O: Sink>(
     out: &mut O,
 ) -> Result<(), Failed>
     requires { StopInRange system.now stop }
-    ensures { (before : O) (text : List ℕ) → text ≢ [] →
-        IsUnderWay O.state before out.old text (line_of_end system.now clock stop) →
-        PutsWhole O.state before out.new result text }
+    ensures { (before : O) (bytes : List ℕ) → bytes ≢ [] →
+        IsUnderWay O.state before out.old bytes (line_of_end system.now clock stop) →
+        PutsWhole O.state before out.new result bytes }
 {
     let end = end_line(system, stop, clock);
     put_piece(out, end.as_str().as_bytes())?;
@@ -61,7 +72,6 @@ pub fn write_history<O: Sink>(joint: &Joint, out: &mut O) -> Result<(), Failed>
     let Some(stop) = joint.stop() else {
         unreachable!()
     };
-    put_piece(out, HEADER)?;
-    put_lines(&joint.task().system, joint.history(), out)?;
+    put_text(joint, out)?;
     put_stop(&joint.task().system, stop, joint.clock(), out)
 }

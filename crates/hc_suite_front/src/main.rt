@@ -1,16 +1,18 @@
 //! Answers rows of questions about texts, one a line: whether they are sources and have the same trees, how they are
-//! printed, what they expand to, whether they are accepted, and where they are refused.
+//! printed, what they expand to, whether they are accepted, and where they are refused; and about made sources.
 #![tactic(auto)]
 
 mod asking;
 mod checking;
 mod expanding;
+mod making;
 mod reading;
 mod texts;
 
 use asking::Asked;
 use checking::checked;
 use expanding::{expanded, expanded_as};
+use making::made_as;
 use reading::{compared, parsed, printed};
 use std::alloc::{AllocError, Global};
 use std::io;
@@ -24,6 +26,7 @@ fn answer_to_question(alloc: Global, kind: &str, asked: &Asked) -> Result<String
         ("check", None) => checked(alloc, &asked.text),
         ("same", Some(other)) => compared(alloc, &asked.text, other),
         ("expand", Some(other)) => expanded_as(alloc, &asked.text, other),
+        ("made", Some(other)) => made_as(alloc, &asked.text, other),
         _ => String::from_str(alloc, "unknown"),
     }
 }

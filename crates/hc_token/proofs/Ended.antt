@@ -1,6 +1,6 @@
 -- The tokens of a text end once.
-use Rattle.std.proofs.Common.{◌≡◌, ◌≢◌, ℕ, zero, suc, ◌+◌, ◌-◌, true, false, Bool, List, [], ◌∷◌, ◌++◌, length, drop, Option, None, Some, refl, sym, ap, ◌∙◌, nat_eq}
-use Rattle.std.specs.Prelude.{IfSome, ◌==◌, nat_lt, take_while, slice_index, find}
+use Rattle.std.proofs.Common.{◌≡◌, ◌≢◌, ℕ, ◌+◌, true, false, Bool, List, [], ◌∷◌, ◌++◌, length, drop, Option, None, Some, refl, sym, ap, ◌∙◌, nat_eq}
+use Rattle.std.specs.Prelude.{IfSome, not, ◌==◌, nat_lt, take_while, slice_index, find}
 use Rattle.std.specs.Char.{is_ascii_alphabetic, is_ascii_digit}
 use Rattle.std.specs.List.{starts_with, prefix_len}
 use Rattle.std.specs.Cmp.Lexicographic.{pointwise}
@@ -8,25 +8,25 @@ use Rattle.std.specs.Str.Parse.{digits_value}
 use Rattle.std.proofs.lemmas.Bool.{false≢true}
 use Rattle.hc_frac.specs.declared.place.Place.{Place}
 use Rattle.hc_frac.specs.Word.{word_byte}
+use Rattle.hc_grammar.specs.Ends.{Ends}
+use Rattle.hc_scan.specs.declared.piece.Piece.{Piece}
+use Rattle.hc_scan.specs.Tokens.{TellsEnd}
+use Rattle.hc_scan.proofs.Passing as scan
 use Rattle.hc_token.specs.declared.kind.Kind.{Kind}
 use Rattle.hc_token.specs.declared.kind.Kind.TheVariants as k
 use Rattle.hc_token.specs.declared.token.Content.TheVariants as says
 use Rattle.hc_token.specs.declared.token.Token.{Token}
-use Rattle.hc_token.specs.declared.piece.Piece.{Piece}
 use Rattle.hc_token.specs.Kinds.{Spelled, keywords, signs, keyword, sign}
 use Rattle.hc_token.specs.Words.{Lexeme, word, short_word, before_dot, is_name, ends_in_dot, front_of}
 use Rattle.hc_token.specs.Numbers.{front_digits, places_digits, number_of, in_range, ranged}
 use Rattle.hc_token.specs.Pieces.{is_blank, in_comment, gap, word_piece, number_piece, sign_piece, piece}
-use Rattle.hc_token.specs.Tokens.{after, token_at, with_piece, tokens_from, AreEnded}
+use Rattle.hc_token.specs.Tokens.{token_at, end, tokens_from, AreEnded}
 use Rattle.hc_token.proofs.Found.{either, found_passes, mapped}
 
 -- whether a kind isn't that of the end
 abbrev pub goes_on : Kind → Bool
 goes_on k.End = false
 goes_on kind = true
-
-not_end : (kind : Kind) → goes_on kind ≡ true → kind ≢ k.End
-not_end kind h e = false≢true (sym (ap goes_on e) ∙ h)
 
 -- a token is no end
 abbrev pub GoesOn : Option Lexeme → Type 0
@@ -78,7 +78,7 @@ found_goes_on z =
 pub piece_goes_on : (z : List ℕ) → GoesOn (piece z).lexeme
 unfolding piece
 piece_goes_on z =
-    let P : Piece → Type 0 = λ q. GoesOn q.lexeme in
+    let P : Piece Lexeme → Type 0 = λ q. GoesOn q.lexeme in
     let b = slice_index z 0 in
     let w = take_while word_byte z in
     let number = number_goes_on (digits_value 10 (front_digits z ++ places_digits z)) (length (places_digits z)) in
@@ -88,18 +88,31 @@ piece_goes_on z =
     (either P (is_ascii_digit b) (number_piece z) (sign_piece (sign z)) number
     (sign_goes_on (sign z) (found_goes_on z)))))
 
-ends_later : (t : Token) (ts : List Token) → t.kind ≢ k.End → AreEnded ts → AreEnded (t ∷ ts)
-ends_later t [] n e = absurd e
-ends_later t (u ∷ us) n e = (n, e)
+-- whether a token is the end of a text
+is_end : Token → Bool
+is_end t = not (goes_on t.kind)
 
-with_piece_ends : (p : Place) (o : Option Lexeme) (ts : List Token) → GoesOn o → AreEnded ts
-    → AreEnded (with_piece p o ts)
-with_piece_ends p None ts h e = e
-with_piece_ends p (Some l) ts h e = ends_later (token_at p l) ts (not_end l.0 h) e
+before_end : (o : Option Lexeme) (p : Place) → GoesOn o → IfSome o (λ l. is_end (token_at p l) ≡ false)
+unfolding is_end
+before_end None p h = tt
+before_end (Some l) p h = ap not h
+
+tells_end : TellsEnd piece token_at end is_end
+unfolding is_end
+tells_end = record { at_end = λ p. refl; before = λ z p. before_end (piece z).lexeme p (piece_goes_on z) }
+
+is_last : (kind : Kind) → not (goes_on kind) ≡ true → kind ≡ k.End
+is_last k.End e = refl
+is_last kind e = absurd (false≢true e)
+
+is_other : (kind : Kind) → not (goes_on kind) ≡ false → kind ≢ k.End
+is_other kind h e = false≢true (sym h ∙ ap (λ x. not (goes_on x)) e)
+
+are_ended : (ts : List Token) → Ends is_end ts → AreEnded ts
+unfolding is_end
+are_ended [] e = e
+are_ended (t ∷ []) e = is_last t.kind e
+are_ended (t ∷ u ∷ ts) e = (is_other t.kind e.0, are_ended (u ∷ ts) e.1)
 
 pub tokens_end : (n : ℕ) (p : Place) (z : List ℕ) → AreEnded (tokens_from n p z)
-tokens_end n p [] = refl
-tokens_end (suc n) p (b ∷ z) = tokens_end n (after p b) z
-tokens_end zero p (b ∷ z) =
-    with_piece_ends p (piece (b ∷ z)).lexeme (tokens_from ((piece (b ∷ z)).len - 1) (after p b) z)
-    (piece_goes_on (b ∷ z)) (tokens_end ((piece (b ∷ z)).len - 1) (after p b) z)
+tokens_end n p z = are_ended (tokens_from n p z) (scan.tokens_end piece token_at end is_end tells_end n p z)

@@ -5,5 +5,4 @@ pub mod Ranges
 pub mod Digits
 pub mod Found
 pub mod Signs
-pub mod Passing
 pub mod Ended

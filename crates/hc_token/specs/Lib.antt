@@ -3,4 +3,3 @@ pub mod Words
 pub mod Numbers
 pub mod Pieces
 pub mod Tokens
-pub mod Scanning

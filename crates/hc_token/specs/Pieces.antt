@@ -3,12 +3,12 @@ use Rattle.std.specs.Prelude.{ℕ, ◌+◌, Bool, not, ◌||◌, if◌then◌els
 use Rattle.std.specs.List.{prefix_len}
 use Rattle.std.specs.Char.{is_ascii_alphabetic, is_ascii_digit}
 use Rattle.hc_frac.specs.Word.{word_byte}
+use Rattle.hc_scan.specs.declared.piece.Piece.{Piece}
 use Rattle.hc_token.specs.declared.kind.Kind.{Kind}
 use Rattle.hc_token.specs.declared.kind.Kind.TheVariants as k
 use Rattle.hc_token.specs.declared.token.Content.TheVariants as says
-use Rattle.hc_token.specs.declared.piece.Piece.{Piece}
 use Rattle.hc_token.specs.Kinds.{sign}
-use Rattle.hc_token.specs.Words.{word}
+use Rattle.hc_token.specs.Words.{Lexeme, word}
 use Rattle.hc_token.specs.Numbers.{number, number_len}
 
 -- a space, a tab, a carriage return or a newline
@@ -20,24 +20,24 @@ abbrev pub in_comment : ℕ → Bool
 in_comment b = not (b == 10)
 
 -- blanks and comments are no token
-abbrev pub gap : ℕ → Piece
+abbrev pub gap : ℕ → Piece Lexeme
 gap len = record { len = len; lexeme = None }
 
 -- a word
-abbrev pub word_piece : List ℕ → Piece
+abbrev pub word_piece : List ℕ → Piece Lexeme
 word_piece w = record { len = length w; lexeme = Some (word w) }
 
 -- the number at the front of a text
-abbrev pub number_piece : List ℕ → Piece
+abbrev pub number_piece : List ℕ → Piece Lexeme
 number_piece z = record { len = number_len z; lexeme = Some (number z) }
 
 -- a sign, or else one byte that begins no token
-abbrev pub sign_piece : Option (Kind × ℕ) → Piece
+abbrev pub sign_piece : Option (Kind × ℕ) → Piece Lexeme
 sign_piece (Some s) = record { len = s.1; lexeme = Some (s.0, says.Plain) }
 sign_piece None = record { len = 1; lexeme = Some (k.Other, says.Plain) }
 
 -- what stands at the front of a text, as long as possible
-unfoldable pub piece : List ℕ → Piece
+unfoldable pub piece : List ℕ → Piece Lexeme
 piece z =
     let b = slice_index z 0 in
     if is_blank b then gap 1

@@ -118,59 +118,127 @@ pub enum Kind {
     Other,
 }
 
-const KEYWORDS: [(&[u8], Kind); 17] = [
-    (b"module", Kind::Module),
-    (b"endmodule", Kind::EndModule),
-    (b"begin", Kind::Begin),
-    (b"end", Kind::EndBody),
-    (b"system", Kind::System),
-    (b"endsystem", Kind::EndSystem),
-    (b"ch", Kind::Ch),
-    (b"val", Kind::Val),
-    (b"skip", Kind::Skip),
-    (b"wait", Kind::Wait),
-    (b"log", Kind::Log),
-    (b"if", Kind::If),
-    (b"then", Kind::Then),
-    (b"else", Kind::Else),
-    (b"endif", Kind::EndIf),
-    (b"true", Kind::True),
-    (b"false", Kind::False),
+impl Kind {
+    /// How a keyword or a sign is spelled; what is neither is spelled by nothing.
+    pub fn text(self) -> &'static [u8]
+        ensures { result.now ≡ spec.text_of self }
+    {
+        match self {
+            Kind::Module => b"module",
+            Kind::EndModule => b"endmodule",
+            Kind::Begin => b"begin",
+            Kind::EndBody => b"end",
+            Kind::System => b"system",
+            Kind::EndSystem => b"endsystem",
+            Kind::Ch => b"ch",
+            Kind::Val => b"val",
+            Kind::Skip => b"skip",
+            Kind::Wait => b"wait",
+            Kind::Log => b"log",
+            Kind::If => b"if",
+            Kind::Then => b"then",
+            Kind::Else => b"else",
+            Kind::EndIf => b"endif",
+            Kind::True => b"true",
+            Kind::False => b"false",
+            _ => self.sign_text(),
+        }
+    }
+
+    /// How a sign is spelled; what is none is spelled by nothing.
+    fn sign_text(self) -> &'static [u8]
+        ensures { result.now ≡ spec.sign_text self }
+    {
+        match self {
+            Kind::Arrow => b"-->",
+            Kind::ColonEqual => b":=",
+            Kind::BarBar => b"||",
+            Kind::BarGreater => b"|>",
+            Kind::PlusPlus => b"++",
+            Kind::StarStar => b"**",
+            Kind::EmptySquare => b"[]",
+            Kind::AndAnd => b"&&",
+            Kind::LessEqual => b"<=",
+            Kind::GreaterEqual => b">=",
+            Kind::EqualEqual => b"==",
+            Kind::NotEqual => b"!=",
+            Kind::OpenRound => b"(",
+            Kind::CloseRound => b")",
+            Kind::OpenCurly => b"{",
+            Kind::CloseCurly => b"}",
+            Kind::OpenSquare => b"[",
+            Kind::CloseSquare => b"]",
+            Kind::Less => b"<",
+            Kind::Greater => b">",
+            Kind::Comma => b",",
+            Kind::Semicolon => b";",
+            Kind::Colon => b":",
+            Kind::Equal => b"=",
+            Kind::And => b"&",
+            Kind::Exclamation => b"!",
+            Kind::Question => b"?",
+            Kind::Plus => b"+",
+            Kind::Minus => b"-",
+            Kind::Star => b"*",
+            Kind::Slash => b"/",
+            _ => b"",
+        }
+    }
+}
+
+const KEYWORDS: [Kind; 17] = [
+    Kind::Module,
+    Kind::EndModule,
+    Kind::Begin,
+    Kind::EndBody,
+    Kind::System,
+    Kind::EndSystem,
+    Kind::Ch,
+    Kind::Val,
+    Kind::Skip,
+    Kind::Wait,
+    Kind::Log,
+    Kind::If,
+    Kind::Then,
+    Kind::Else,
+    Kind::EndIf,
+    Kind::True,
+    Kind::False,
 ];
 
 // The longer ones first.
-const SIGNS: [(&[u8], Kind); 31] = [
-    (b"-->", Kind::Arrow),
-    (b":=", Kind::ColonEqual),
-    (b"||", Kind::BarBar),
-    (b"|>", Kind::BarGreater),
-    (b"++", Kind::PlusPlus),
-    (b"**", Kind::StarStar),
-    (b"[]", Kind::EmptySquare),
-    (b"&&", Kind::AndAnd),
-    (b"<=", Kind::LessEqual),
-    (b">=", Kind::GreaterEqual),
-    (b"==", Kind::EqualEqual),
-    (b"!=", Kind::NotEqual),
-    (b"(", Kind::OpenRound),
-    (b")", Kind::CloseRound),
-    (b"{", Kind::OpenCurly),
-    (b"}", Kind::CloseCurly),
-    (b"[", Kind::OpenSquare),
-    (b"]", Kind::CloseSquare),
-    (b"<", Kind::Less),
-    (b">", Kind::Greater),
-    (b",", Kind::Comma),
-    (b";", Kind::Semicolon),
-    (b":", Kind::Colon),
-    (b"=", Kind::Equal),
-    (b"&", Kind::And),
-    (b"!", Kind::Exclamation),
-    (b"?", Kind::Question),
-    (b"+", Kind::Plus),
-    (b"-", Kind::Minus),
-    (b"*", Kind::Star),
-    (b"/", Kind::Slash),
+const SIGNS: [Kind; 31] = [
+    Kind::Arrow,
+    Kind::ColonEqual,
+    Kind::BarBar,
+    Kind::BarGreater,
+    Kind::PlusPlus,
+    Kind::StarStar,
+    Kind::EmptySquare,
+    Kind::AndAnd,
+    Kind::LessEqual,
+    Kind::GreaterEqual,
+    Kind::EqualEqual,
+    Kind::NotEqual,
+    Kind::OpenRound,
+    Kind::CloseRound,
+    Kind::OpenCurly,
+    Kind::CloseCurly,
+    Kind::OpenSquare,
+    Kind::CloseSquare,
+    Kind::Less,
+    Kind::Greater,
+    Kind::Comma,
+    Kind::Semicolon,
+    Kind::Colon,
+    Kind::Equal,
+    Kind::And,
+    Kind::Exclamation,
+    Kind::Question,
+    Kind::Plus,
+    Kind::Minus,
+    Kind::Star,
+    Kind::Slash,
 ];
 
 /// The kind of the keyword that is spelled so, if there is one.
@@ -191,22 +259,25 @@ pub(crate) fn sign(text: &[u8]) -> Option<(Kind, usize)>
     in_front(&SIGNS, text)
 }
 
-fn spelled(table: &[(&[u8], Kind)], word: &[u8]) -> Option<Kind>
-    ensures { result ≡ spec.spelled (map (λ s. (s.0.now, s.1)) table.now) word.now }
+/// The first kind of a list that is spelled so.
+fn spelled(kinds: &[Kind], word: &[u8]) -> Option<Kind>
+    ensures { result ≡ spec.spelled (map spec.with_text kinds.now) word.now }
 {
-    for (spelling, kind) in table {
-        if *spelling == word {
+    for kind in kinds {
+        if kind.text() == word {
             return Some(*kind);
         }
     }
     None
 }
 
-fn in_front(table: &[(&[u8], Kind)], text: &[u8]) -> Option<(Kind, usize)>
-    ensures first { result ≡ spec.in_front (map (λ s. (s.0.now, s.1)) table.now) text.now }
+/// The first kind of a list with whose spelling the text begins, and the length of that in bytes.
+fn in_front(kinds: &[Kind], text: &[u8]) -> Option<(Kind, usize)>
+    ensures first { result ≡ spec.in_front (map spec.with_text kinds.now) text.now }
     ensures within { IfSome result (λ s. s.1 ≤ length text.now) }
 {
-    for (spelling, kind) in table {
+    for kind in kinds {
+        let spelling = kind.text();
         if text.starts_with(spelling) {
             return Some((*kind, spelling.len()));
         }

@@ -10,17 +10,11 @@ use crate::kind::{Kind, sign};
 use crate::number::number;
 use crate::token::Content;
 use crate::word::word;
+use hc_scan::Piece;
 
-/// A piece of a text: its length in bytes, and the token that it is. A blank and a comment are none.
-#[derive(Drop)]
-pub(crate) struct Piece {
-    pub(crate) len: usize,
-    pub(crate) lexeme: Option<(Kind, Content)>,
-}
-
-/// The piece at the front of a text.
+/// The piece at the front of a text: a token, or a blank or a comment, which are none.
 #[tactic(auto, using(crate::proofs::Runs::all_of_run), unfolding(crate::specs::Pieces::piece))]
-pub(crate) fn front_piece(text: &[u8]) -> Piece
+pub(crate) fn front_piece(text: &[u8]) -> Piece<(Kind, Content)>
     requires { 0 < length text.now }
     ensures piece { result ≡ spec.piece text.now }
     ensures within { (1 ≤ result.len) × (result.len ≤ length text.now) }
@@ -54,7 +48,7 @@ pub(crate) fn front_piece(text: &[u8]) -> Piece
 }
 
 /// The sign at the front of a text, or one byte that begins no token.
-fn sign_piece(text: &[u8]) -> Piece
+fn sign_piece(text: &[u8]) -> Piece<(Kind, Content)>
     requires { 0 < length text.now }
     ensures piece { result ≡ spec.sign_piece (sign text.now) }
     ensures within { (1 ≤ result.len) × (result.len ≤ length text.now) }

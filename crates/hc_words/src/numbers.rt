@@ -9,6 +9,7 @@ ghost use Rattle.hc_frac.specs.declared.decimal.Decimal as number;
 ghost use Rattle.hc_words.specs.Numbers as spec;
 
 use hc_frac::{Decimal, Frac};
+use hc_grammar::Source;
 use hc_limits::MOST_SOURCE_BYTES;
 use hc_token::{Content, Kind, Scanner};
 

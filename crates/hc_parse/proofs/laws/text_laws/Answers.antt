@@ -1,4 +1,4 @@
-use Rattle.hc_parse.proofs.OneAnswer.{one_tree, one_refusal, not_refused}
+use Rattle.hc_parse.proofs.OneAnswer.{one_tree, one_refusal, not_refused, every_text}
 use Rattle.hc_parse.proofs.laws.text_laws.Goals as goal
 
 pub returns-clause-one_tree : goal.returns-clause-one_tree
@@ -9,3 +9,6 @@ returns-clause-one_refusal c = one_refusal
 
 pub returns-clause-not_refused : goal.returns-clause-not_refused
 returns-clause-not_refused c = not_refused
+
+pub returns-clause-every_text : goal.returns-clause-every_text
+returns-clause-every_text c = every_text

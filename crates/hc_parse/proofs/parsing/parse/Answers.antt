@@ -1,54 +1,24 @@
-use Rattle.std.proofs.Common.{◌≡◌, sym, ◌∙◌, subst, Err, Ok}
+use Rattle.std.proofs.Common.{sym, subst, List, Result, Ok, Err}
+use Rattle.hc_grammar.specs.Ends.{Ends}
+use Rattle.hc_grammar.specs.Language.{is_last}
 use Rattle.hc_token.specs.Tokens.{tokens_of}
-use Rattle.hc_ast.specs.Source.{IsSource}
-use Rattle.hc_parse.specs.Stops.{IsStop, IsTreeOrMemory, IsStopOrMemory}
-use Rattle.hc_parse.proofs.Readable.{reads_all}
-use Rattle.hc_parse.proofs.Answered.{Faulty, faulty, all_read, is_stop, no_tree, one_stop, is_source, one_tree, no_refusal}
+use Rattle.hc_parse.specs.Language.{language}
+use Rattle.hc_parse.specs.Stops.{IsExact}
+use Rattle.hc_parse.proofs.Answered.{IsRead, tree_exact, stop_exact}
+use Rattle.hc_parse.proofs.OneAnswer.{ended}
 use Rattle.hc_parse.proofs.parsing.parse.Goals as goal
-use Rattle.hc_parse.specs.declared.parsing.ParseStop.{ParseStop}
 
--- all tokens are read
-read : (c : goal.After-finish) → reads_all (tokens_of c.args.bytes.now) ≡ Ok c.loop-token.reading.values
-read c = all_read (tokens_of c.args.bytes.now) c.loop-token.token-iterator c.loop-token.reading c.loop-token.invariant c.in-None.ensures.steps.0
+pub read-requires-clause-ended : goal.read-requires-clause-ended
+read-requires-clause-ended c κs =
+    subst (λ ts. Ends (is_last language) ts) (sym c.new-tokens.ensures.tokens)
+    (ended (tokens_of c.args.bytes.now) c.new-tokens.ensures.ended)
 
-pub returns-clause-tree : goal.returns-clause-tree
-returns-clause-tree c =
-    subst (IsSource c.args.bytes.now) (sym c.finish.ensures)
-    (is_source c.args.bytes.now c.new-token-items.ensures.ended c.loop-token.reading.values (read c))
+pub returns-in-Ok : goal.returns-in-Ok
+returns-in-Ok c =
+    subst (λ t. IsExact c.args.bytes.now (Ok t)) (sym c.tree.ensures)
+    (tree_exact c.args.bytes.now c.in-Ok.text (subst (λ ts. IsRead ts (Ok c.in-Ok.text)) c.new-tokens.ensures.tokens c.in-Ok.ensures))
 
-pub returns-clause-every_tree : goal.returns-clause-every_tree
-returns-clause-every_tree c =
-    λ t x. c.finish.ensures ∙ one_tree c.args.bytes.now c.new-token-items.ensures.ended c.loop-token.reading.values (read c) t x
-
-pub returns-clause-every_refusal : goal.returns-clause-every_refusal
-returns-clause-every_refusal c =
-    no_refusal c.args.bytes.now c.new-token-items.ensures.ended c.loop-token.reading.values (read c)
-
-pub returns-in-Err-clause-refusal : goal.returns-in-Err-clause-refusal
-returns-in-Err-clause-refusal c =
-    let ts = tokens_of c.args.bytes.now in
-    let f : Faulty ts c.in-Some.token c.in-Err.fault =
-    faulty ts c.loop-token.token-iterator c.next.new.self c.loop-token.reading c.in-Some.token c.in-Err.fault
-    c.loop-token.invariant c.in-Some.ensures.steps c.in-Err.ensures.err in
-    subst (IsStop c.args.bytes.now) (sym c.stop_of.ensures)
-    (is_stop c.args.bytes.now c.new-token-items.ensures.ended c.in-Some.token c.in-Err.fault f)
-
-pub returns-in-Err-clause-every_tree : goal.returns-in-Err-clause-every_tree
-returns-in-Err-clause-every_tree c =
-    let ts = tokens_of c.args.bytes.now in
-    let f : Faulty ts c.in-Some.token c.in-Err.fault =
-    faulty ts c.loop-token.token-iterator c.next.new.self c.loop-token.reading c.in-Some.token c.in-Err.fault
-    c.loop-token.invariant c.in-Some.ensures.steps c.in-Err.ensures.err in
-    λ t x.
-    subst (λ (s : ParseStop). IsTreeOrMemory t (Err s)) (sym c.stop_of.ensures)
-    (no_tree c.args.bytes.now c.new-token-items.ensures.ended c.in-Some.token c.in-Err.fault f t x)
-
-pub returns-in-Err-clause-every_refusal : goal.returns-in-Err-clause-every_refusal
-returns-in-Err-clause-every_refusal c =
-    let ts = tokens_of c.args.bytes.now in
-    let f : Faulty ts c.in-Some.token c.in-Err.fault =
-    faulty ts c.loop-token.token-iterator c.next.new.self c.loop-token.reading c.in-Some.token c.in-Err.fault
-    c.loop-token.invariant c.in-Some.ensures.steps c.in-Err.ensures.err in
-    λ g p x.
-    subst (λ (s : ParseStop). IsStopOrMemory g p (Err s)) (sym c.stop_of.ensures)
-    (one_stop c.args.bytes.now c.new-token-items.ensures.ended c.in-Some.token c.in-Err.fault f g p x)
+pub returns-in-Err : goal.returns-in-Err
+returns-in-Err c =
+    subst (λ s. IsExact c.args.bytes.now (Err s)) (sym c.stop_of.ensures)
+    (stop_exact c.args.bytes.now c.in-Err.stop (subst (λ ts. IsRead ts (Err c.in-Err.stop)) c.new-tokens.ensures.tokens c.in-Err.ensures))

@@ -3,27 +3,33 @@ use Rattle.std.proofs.lemmas.Result.{err_from_is_err_and}
 use Rattle.hc_term.specs.declared.task.Task.{Task}
 use Rattle.hc_term.specs.Canonical.{canonical}
 use Rattle.hc_world.specs.Sinks.{IsCut}
-use Rattle.hc_world.proofs.PieceLemmas.{cut_at_piece, under_way_start}
 use Rattle.hc_joint.specs.Keeps.{HasCourse}
 use Rattle.hc_sim.specs.Told.{canonical_text}
-use Rattle.hc_sim.proofs.Turning.{along_from, along_turn, turn_ends, turn_keeps, cut_at_start, cut_in_turn, along_end, end_there, ended_along}
+use Rattle.hc_sim.proofs.Untouched.{untouched}
+use Rattle.hc_sim.proofs.Turning.{along_from, cut_in_text, along_turn, turn_ends, turn_keeps, cut_at_start, cut_in_turn, along_end, end_there, ended_along}
 use Rattle.hc_sim.proofs.simulating.simulate.Goals as goal
 
-pub returns-in_err-put_piece-clause-text : goal.returns-in_err-put_piece-clause-text
-returns-in_err-put_piece-clause-text g c =
+pub returns-in_err-put_text-clause-text : goal.returns-in_err-put_text-clause-text
+returns-in_err-put_text-clause-text g c =
+    let s = c.args.joint.now in
     let exit = err_from_is_err_and c.from_residual.result c.from_residual.ensures.1 in
-    rw exit.1 (cut_at_piece _ refl (under_way_start _ _ (canonical_text c.args.joint.now.task)) c.in_err-put_piece.ensures)
+    let first = untouched s c.put_text.ensures.keeps c.requires.history c.requires.stop in
+    rw exit.1 (cut_in_text g.O.Sink.state c.args.out.now c.put_text.new.out s first c.in_err-put_text.ensures.puts)
 
-pub returns-in_err-put_piece-clause-failed : goal.returns-in_err-put_piece-clause-failed
-returns-in_err-put_piece-clause-failed g c =
+pub returns-in_err-put_text-clause-failed : goal.returns-in_err-put_text-clause-failed
+returns-in_err-put_text-clause-failed g c =
+    let s = c.args.joint.now in
     let exit = err_from_is_err_and c.from_residual.result c.from_residual.ensures.1 in
-    rw exit.1 (cut_at_start g.O.Sink.state c.args.out.now c.args.joint.now c.requires)
+    rw exit.1 (cut_at_start g.O.Sink.state c.args.out.now s (untouched s c.put_text.ensures.keeps c.requires.history c.requires.stop))
 
 pub loop-init : goal.loop-init
-loop-init g c = record {
-  task = refl;
-  along = along_from g.O.Sink.state c.args.out.now c.put_piece.new.sink c.args.joint.now c.requires c.in_ok-put_piece.ensures;
-}
+loop-init g c =
+    let s = c.args.joint.now in
+    let first = untouched s c.put_text.ensures.keeps c.requires.history c.requires.stop in
+    record {
+      task = refl;
+      along = along_from g.O.Sink.state c.args.out.now c.put_text.new.out s first c.in_ok-put_text.ensures.puts;
+    }
 
 pub returns-in_err-tell_turn-clause-text : goal.returns-in_err-tell_turn-clause-text
 returns-in_err-tell_turn-clause-text g c =

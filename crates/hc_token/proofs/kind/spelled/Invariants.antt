@@ -1,8 +1,6 @@
 use Rattle.std.proofs.Common.{◌≡◌, map, drop}
-use Rattle.hc_token.specs.Kinds.{spelled}
+use Rattle.hc_token.specs.Kinds.{with_text, spelled}
 use Rattle.hc_token.proofs.kind.spelled.Given as goal
 
-abbrev pub invariant-loop-spelling : goal.invariant-loop-spelling
-invariant-loop-spelling l =
-    spelled (map (λ s. (s.0.now, s.1)) (drop l.spelling-index l.table)) l.word
-    ≡ spelled (map (λ s. (s.0.now, s.1)) l.table) l.word
+abbrev pub invariant-loop-kind : goal.invariant-loop-kind
+invariant-loop-kind l = spelled (map with_text (drop l.kind-index l.kinds)) l.word ≡ spelled (map with_text l.kinds) l.word

@@ -1,15 +1,16 @@
-use Rattle.std.proofs.Common.{◌∙◌, sym, ap, subst, refl}
+use Rattle.std.proofs.Common.{◌∙◌, sym, ap, subst, refl, arith}
 use Rattle.hc_joint.specs.Seen.{Seen}
 use Rattle.hc_joint.specs.Keeps.{Keeps}
 use Rattle.hc_joint.proofs.Kept.{made_keeps}
 use Rattle.hc_joint.proofs.Halting.{none_is}
-use Rattle.hc_joint.proofs.Finishing.{begun, turn_goes_on, turn_falls, turn_keeps_task, turn_keeps_recomputed, had_turn}
+use Rattle.hc_joint.proofs.Finishing.{begun, turn_goes_on, turn_falls, turn_keeps_task, turn_keeps_recomputed, turn_counts, had_turn}
 use Rattle.hc_joint.proofs.joint.Joint.finish.Goals as goal
 
 pub loop-self-init : goal.loop-self-init
 loop-self-init c = record {
   task = refl;
   recomputed = refl;
+  grown = omega arith;
   course = begun c.args.self.now c.args.self.now.stop refl;
 }
 
@@ -34,5 +35,6 @@ loop-self-preserved c =
     record {
       task = turn_keeps_task now new kept none turn ∙ c.loop-self.invariant.task;
       recomputed = turn_keeps_recomputed now new kept none turn ∙ c.loop-self.invariant.recomputed;
+      grown = omega (arith, c.loop-self.invariant.grown, turn_counts now new kept none turn);
       course = turn_goes_on now new kept none turn old.stop old refl c.loop-self.invariant.course;
     }

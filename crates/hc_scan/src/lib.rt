@@ -1,0 +1,8 @@
+//! The tokens of a text, with their places, for every language that says what a text begins with.
+#![tactic(auto)]
+
+mod piece;
+mod scanner;
+
+pub use piece::Piece;
+pub use scanner::{Lexer, Scanner};

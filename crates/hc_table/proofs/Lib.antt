@@ -1,0 +1,11 @@
+pub mod Tabled
+pub mod Derive
+pub mod DeriveStmts
+pub mod DeriveSources
+pub mod Examples
+pub mod Phrase
+pub mod CloseExprs
+pub mod CloseStmts
+pub mod CloseSources
+pub mod Alike
+pub mod Readable

@@ -1,0 +1,27 @@
+-- The symbols of the source language's table.
+use Rattle.std.specs.Prelude.{List, ◌∷◌}
+use Rattle.hc_grammar.specs.declared.symbol.Symbol.{Symbol}
+use Rattle.hc_grammar.specs.declared.symbol.Symbol.TheVariants.{Head, Mark}
+use Rattle.hc_grammar.specs.Table as table
+use Rattle.hc_token.specs.declared.kind.Kind.{Kind}
+use Rattle.hc_ast.specs.declared.role.Role.{Role}
+use Rattle.hc_ast.specs.declared.role.Mark as mark
+use Rattle.hc_ast.specs.declared.role.Mark.TheVariants as m
+use Rattle.hc_table.specs.declared.head.Head as head
+use Rattle.hc_table.specs.declared.head.Head.TheVariants as h
+
+abbrev pub Rule : Type 0
+Rule = Symbol Kind head.Head Role mark.Mark
+
+abbrev pub Row : Type 0
+Row = table.Entry Kind head.Head Role mark.Mark
+
+-- an expression, a condition and a sequence of statements, each in front of what follows it
+abbrev pub an_expr : List Rule → List Rule
+an_expr p = Head h.Factor ∷ Head h.Products ∷ Head h.Sums ∷ p
+
+abbrev pub a_cond : List Rule → List Rule
+a_cond p = Head h.One ∷ Head h.Ands ∷ Head h.Ors ∷ p
+
+abbrev pub a_seq : List Rule → List Rule
+a_seq p = Mark m.Body ∷ Head h.Stmt ∷ Head h.More ∷ p
