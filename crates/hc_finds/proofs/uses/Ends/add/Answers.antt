@@ -11,5 +11,5 @@ returns-in_ok-note c =
 
 pub returns-in_ok-note-2 : goal.returns-in_ok-note-2
 returns-in_ok-note-2 c =
-    let new : Ends = record { sent = c.args.self.now.sent; received = c.note-2.new.names } in
+    let new : Ends = record { sent = c.args.self.now.sent; received = c.note-else-end.new.names } in
     λ us are. received_more c.args.self.now new (use_of c.args.end) us are (cc) (c.in_ok-note-2.ensures {u = tt}) refl
