@@ -17,6 +17,7 @@ use Rattle.hc_finds.specs.Seen.{use_of, uses_seen, all_uses, channels_at, AreEnd
 use Rattle.hc_frac.specs.declared.place.Place.{Place}
 use Rattle.hc_modules.specs.Finds.{only_if, along}
 use Rattle.hc_finds.proofs.First.{along-at, first-some, first-none}
+use Rattle.hc_finds.proofs.InTurn.{none-found}
 use Rattle.hc_finds.specs.Uses.{Use, goes, is_use, have_use, shared_in, uses_in, uses_of}
 use Rattle.hc_finds.specs.Refusals.{parts_in}
 use Rattle.hc_modules.specs.declared.flat.FlatProcess.{FlatProcess}
@@ -136,6 +137,20 @@ module _ (sends : Bool) (ps : List (Vec code.Use)) (i : ℕ) (p : Vec code.Use) 
 
   pub process_ends : (e : Ends) → AreEnds e (in_a_row (all_uses (take i ps)) ++ uses_seen p.items) → AreEnds e (in_a_row (all_uses (take (i + 1) ps)))
   process_ends e are at_send c = are at_send c ∙ ap (list_any (is_use at_send c)) (sym row_more)
+
+-- what is found in the uses of each process, from number i on
+module _ (look : List Use → List Place) (ps : List (Vec code.Use)) (i : ℕ) (p : Vec code.Use) (h : i < length ps) (is : p ≡ get_or ps i p) where
+  each_next : flat_map look (all_uses (drop i ps)) ≡ look (uses_seen p.items) ++ flat_map look (all_uses (drop (i + 1) ps))
+  each_next =
+      ap (λ qs. flat_map look (all_uses qs)) (drop_more ps i p h)
+      ∙ ap (λ (q : Vec code.Use). look (uses_seen q.items) ++ flat_map look (all_uses (drop (i + 1) ps))) (sym is)
+
+  pub each_here : (place : Place) → slice_get (look (uses_seen p.items)) 0 ≡ Some place
+      → slice_get (flat_map look (all_uses (drop i ps))) 0 ≡ Some place
+  each_here place e = ap (λ xs. slice_get xs 0) each_next ∙ first-some (look (uses_seen p.items)) (flat_map look (all_uses (drop (i + 1) ps))) place e
+
+  pub each_later : slice_get (look (uses_seen p.items)) 0 ≡ None → flat_map look (all_uses (drop i ps)) ≡ flat_map look (all_uses (drop (i + 1) ps))
+  each_later e = each_next ∙ ap (λ xs. xs ++ flat_map look (all_uses (drop (i + 1) ps))) (none-found (look (uses_seen p.items)) e)
 
 -- the uses in the parts of each process are those of each process
 pub uses_alike : (ps : List FlatProcess) → map (flat_map uses_in) (map parts_in ps) ≡ map uses_of ps
