@@ -38,12 +38,12 @@ module _ (ps : List FlatProcess) (none : refusals ps ≡ []) where
 
   -- no part breaks a rule
   kept_rule : (r : Rule) → broken r (all_parts ps) ≡ []
-  kept_rule rule.NumberDivides = none_broken.0
-  kept_rule rule.DivisorIsNotZero = none_broken.1.0
-  kept_rule rule.RatesDiffer = none_broken.1.1.0
-  kept_rule rule.RatesAreConstant = none_broken.1.1.1.0
-  kept_rule rule.IsAffine = none_broken.1.1.1.1.0
-  kept_rule rule.GuardsDiffer = none_broken.1.1.1.1.1.0
+  kept_rule rule.DivisorNotLiteral = none_broken.0
+  kept_rule rule.ZeroDivisor = none_broken.1.0
+  kept_rule rule.RepeatedRate = none_broken.1.1.0
+  kept_rule rule.RateEvolves = none_broken.1.1.1.0
+  kept_rule rule.NotAffine = none_broken.1.1.1.1.0
+  kept_rule rule.RepeatedGuard = none_broken.1.1.1.1.1.0
 
   lawful : (r : Rule) → Each (λ p. Each (λ x. breaks r x ≡ []) (parts_of false p.body)) ps
   lawful r =

@@ -13,7 +13,7 @@ use Rattle.hc_modules.specs.Finds.{only_if, along}
 use Rattle.hc_modules.proofs.Induction.{Each}
 use Rattle.hc_modules.proofs.Nothing.{left_empty, right_empty, not_found}
 use Rattle.hc_finds.specs.Names.{number_in}
-use Rattle.hc_finds.specs.Uses.{Use, goes, is_use, on_both_ends, have_use, shared_in, shared_ends}
+use Rattle.hc_finds.specs.Uses.{Use, goes, is_use, self_channels, have_use, shared_in, shared_ends}
 use Rattle.hc_check.proofs.Numbers.{at_number}
 use Rattle.hc_check.proofs.SameUses.{is_use_at}
 
@@ -164,7 +164,7 @@ module _ (cs : List Word) (k : ℕ) (below : k < length cs) where
       by false true f g rest = ap (λ b. b && true) (none_other true (before ++ u ∷ []) us later (any_added (at false) before u g))
       by false false f g rest = rest
 
-  pub not_both : (uss : List (List Use)) → Each (λ us. on_both_ends us ≡ []) uss
+  pub not_both : (uss : List (List Use)) → Each (λ us. self_channels us ≡ []) uss
       → list_any (λ us. list_any (at true) us && list_any (at false) us) uss ≡ false
   not_both [] e = refl
   not_both (us ∷ uss) e =

@@ -10,7 +10,7 @@ use Rattle.hc_modules.proofs.Induction.{Each}
 use Rattle.hc_modules.proofs.Nothing.{left_empty, right_empty, unmapped_empty, each_empty}
 use Rattle.hc_finds.specs.declared.stop.CheckStop.TheVariants as stop
 use Rattle.hc_finds.specs.Limits.{channels_of}
-use Rattle.hc_finds.specs.Uses.{Use, uses_of, on_both_ends, shared_ends}
+use Rattle.hc_finds.specs.Uses.{Use, uses_of, self_channels, shared_ends}
 use Rattle.hc_finds.specs.Refusals.{refusals, bad_ends}
 use Rattle.hc_check.specs.Numbered.{process_over}
 use Rattle.hc_check.proofs.FromRefusals.{good_ends}
@@ -19,26 +19,26 @@ use Rattle.hc_check.proofs.GoodEnds.{one_end, not_both}
 
 -- where no find is at the ends of channels
 module _ (uss : List (List Use)) (none : bad_ends uss ≡ []) where
-  first_two : map stop.SelfChannel (flat_map on_both_ends uss) ++ map stop.TwoSenders (shared_ends true uss) ≡ []
+  first_two : map stop.SelfChannel (flat_map self_channels uss) ++ map stop.TwoSenders (shared_ends true uss) ≡ []
   first_two =
-      left_empty (map stop.SelfChannel (flat_map on_both_ends uss) ++ map stop.TwoSenders (shared_ends true uss))
+      left_empty (map stop.SelfChannel (flat_map self_channels uss) ++ map stop.TwoSenders (shared_ends true uss))
       (map stop.TwoReceivers (shared_ends false uss)) none
 
-  none_on_both : Each (λ us. on_both_ends us ≡ []) uss
+  none_on_both : Each (λ us. self_channels us ≡ []) uss
   none_on_both =
-      each_empty on_both_ends uss
-      (unmapped_empty stop.SelfChannel (flat_map on_both_ends uss)
-      (left_empty (map stop.SelfChannel (flat_map on_both_ends uss)) (map stop.TwoSenders (shared_ends true uss)) first_two))
+      each_empty self_channels uss
+      (unmapped_empty stop.SelfChannel (flat_map self_channels uss)
+      (left_empty (map stop.SelfChannel (flat_map self_channels uss)) (map stop.TwoSenders (shared_ends true uss)) first_two))
 
   one_sender : shared_ends true uss ≡ []
   one_sender =
       unmapped_empty stop.TwoSenders (shared_ends true uss)
-      (right_empty (map stop.SelfChannel (flat_map on_both_ends uss)) (map stop.TwoSenders (shared_ends true uss)) first_two)
+      (right_empty (map stop.SelfChannel (flat_map self_channels uss)) (map stop.TwoSenders (shared_ends true uss)) first_two)
 
   one_receiver : shared_ends false uss ≡ []
   one_receiver =
       unmapped_empty stop.TwoReceivers (shared_ends false uss)
-      (right_empty (map stop.SelfChannel (flat_map on_both_ends uss) ++ map stop.TwoSenders (shared_ends true uss))
+      (right_empty (map stop.SelfChannel (flat_map self_channels uss) ++ map stop.TwoSenders (shared_ends true uss))
       (map stop.TwoReceivers (shared_ends false uss)) none)
 
 -- counts and tests over elements that are made of others

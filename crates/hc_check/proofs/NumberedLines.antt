@@ -18,7 +18,7 @@ use Rattle.hc_ast.specs.declared.expr.ExprTree.{ExprTree}
 use Rattle.hc_term.specs.declared.form.Form.{Form}
 use Rattle.hc_term.specs.Motion.{Rates, evolves, allowed, form}
 use Rattle.hc_modules.specs.Finds.{only_if}
-use Rattle.hc_finds.specs.Exprs.{odd_divisors, nought_divisors, is_nought, is_division, is_product, is_among, moves_of}
+use Rattle.hc_finds.specs.Exprs.{divisors_not_literal, zero_divisors, is_zero, is_division, is_product, is_among, moves_of}
 use Rattle.hc_finds.specs.Names.{number_in}
 use Rattle.hc_finds.proofs.ExprForms as inside
 use Rattle.hc_check.specs.Numbered.{op_of, expr_over}
@@ -92,48 +92,48 @@ module _ (xs ys : List Word) (r : Rates)
   moves_same = by_expr SameMoves moves_steps
 
   abbrev IsRight : ExprTree → Type 0
-  IsRight e = (d : Bool) → AreNamed xs e → odd_divisors d e ≡ [] → nought_divisors d e ≡ [] → (moves_of ys e).products ≡ []
+  IsRight e = (d : Bool) → AreNamed xs e → divisors_not_literal d e ≡ [] → zero_divisors d e ≡ [] → (moves_of ys e).products ≡ []
       → IsLine d (form r (expr_over xs e))
 
   right_number : (e : ExprTree) (n : Decimal) → e.kind ≡ plain.Number n → IsRight e
-  right_number e n is d named odd nought products =
+  right_number e n is d named literal nonzero products =
       let shape = ap (form r) (over.over-Number xs e n is) ∙ term.form-Number r (quotient n.digits (10 ^ n.places)) in
-      let none : (d && is_nought n) ≡ false = nothing_there (d && is_nought n) e.place (sym (of.nought-number e n is d) ∙ nought) in
+      let none : (d && is_zero n) ≡ false = nothing_there (d && is_zero n) e.place (sym (of.zero-number e n is d) ∙ nonzero) in
       record {
         affine = ap (λ (t : Form). t.affine) shape;
         divisor = λ t. ap (λ (f : Form). f.divides) shape
-            ∙ not_nought n.digits (10 ^ n.places) (ten_power n.places) (ap (λ b. b && is_nought n) (sym t) ∙ none);
+            ∙ not_nought n.digits (10 ^ n.places) (ten_power n.places) (ap (λ b. b && is_zero n) (sym t) ∙ none);
       }
 
   right_name : (e : ExprTree) (x : Word) → e.kind ≡ plain.Name x → IsRight e
-  right_name e x is d named odd nought products =
+  right_name e x is d named literal nonzero products =
       let shape = ap (form r) (over.over-Name xs e x is) ∙ term.form-Variable r (number_in xs x) in
-      let none : d ≡ false = nothing_there d e.place (sym (of.odd-name e x is d) ∙ odd) in
+      let none : d ≡ false = nothing_there d e.place (sym (of.not_literal-name e x is d) ∙ literal) in
       record { affine = ap (λ (t : Form). t.affine) shape; divisor = λ t. absurd (cc (t, none)) }
 
   right_neg : (e a : ExprTree) → e.kind ≡ seen.Neg a → IsRight a → IsRight e
-  right_neg e a is f d named odd nought products =
+  right_neg e a is f d named literal nonzero products =
       let shape = ap (form r) (over.over-Neg xs e a is) ∙ term.form-Neg r (expr_over xs a) in
-      let parts = both_empty (only_if d e.place) (odd_divisors false a) (sym (inside.odd-neg e a is d) ∙ odd) in
+      let parts = both_empty (only_if d e.place) (divisors_not_literal false a) (sym (inside.not_literal-neg e a is d) ∙ literal) in
       let none : d ≡ false = nothing_there d e.place parts.0 in
-      let rest = f false (named-neg xs e a is named) parts.1 (sym (inside.nought-neg e a is d) ∙ nought)
+      let rest = f false (named-neg xs e a is named) parts.1 (sym (inside.zero-neg e a is d) ∙ nonzero)
       (sym (ap (λ m. m.products) (inside.moves-neg e a is ys)) ∙ products) in
       record { affine = ap (λ (t : Form). t.affine) shape ∙ rest.affine; divisor = λ t. absurd (cc (t, none)) }
 
   right_binary : (e : ExprTree) (op : Op) (a b : ExprTree) → e.kind ≡ seen.Binary op a b → IsRight a → IsRight b → IsRight e
-  right_binary e op a b is f g d named odd nought products =
+  right_binary e op a b is f g d named literal nonzero products =
       let shape = ap (form r) (over.over-Binary xs e op a b is) ∙ term.form-Binary r (op_of op) (expr_over xs a) (expr_over xs b) in
       let names = named-binary xs e op a b is named in
-      let odds = both_empty (odd_divisors false a ++ only_if d e.place) (odd_divisors (is_division op) b) (sym (inside.odd-binary e op a b is d) ∙ odd) in
-      let left_odds = both_empty (odd_divisors false a) (only_if d e.place) odds.0 in
+      let literals = both_empty (divisors_not_literal false a ++ only_if d e.place) (divisors_not_literal (is_division op) b) (sym (inside.not_literal-binary e op a b is d) ∙ literal) in
+      let left_odds = both_empty (divisors_not_literal false a) (only_if d e.place) literals.0 in
       let none : d ≡ false = nothing_there d e.place left_odds.1 in
-      let noughts = both_empty (nought_divisors false a) (nought_divisors (is_division op) b) (sym (inside.nought-binary e op a b is d) ∙ nought) in
+      let nonzeros = both_empty (zero_divisors false a) (zero_divisors (is_division op) b) (sym (inside.zero-binary e op a b is d) ∙ nonzero) in
       let both_move = is_product op && ((moves_of ys a).moves && (moves_of ys b).moves) in
       let all = both_empty ((moves_of ys a).products ++ only_if both_move e.place) (moves_of ys b).products
       (sym (inside.products-binary e op a b is ys) ∙ products) in
       let left_all = both_empty (moves_of ys a).products (only_if both_move e.place) all.0 in
-      let left = f false names.0 left_odds.0 noughts.0 left_all.0 in
-      let right = g (is_division op) names.1 odds.1 noughts.1 all.1 in
+      let left = f false names.0 left_odds.0 nonzeros.0 left_all.0 in
+      let right = g (is_division op) names.1 literals.1 nonzeros.1 all.1 in
       let allows = allowed_by op (form r (expr_over xs a)) (form r (expr_over xs b)) (moves_of ys a).moves (moves_of ys b).moves
       (moves_same a names.0) (moves_same b names.1) (nothing_there both_move e.place left_all.1) right in
       record {
@@ -141,7 +141,7 @@ module _ (xs ys : List Word) (r : Rates)
         divisor = λ t. absurd (cc (t, none));
       }
 
-  pub lines : (e : ExprTree) (d : Bool) → AreNamed xs e → odd_divisors d e ≡ [] → nought_divisors d e ≡ [] → (moves_of ys e).products ≡ []
+  pub lines : (e : ExprTree) (d : Bool) → AreNamed xs e → divisors_not_literal d e ≡ [] → zero_divisors d e ≡ [] → (moves_of ys e).products ≡ []
       → IsLine d (form r (expr_over xs e))
   lines = by_expr IsRight (record { number = right_number; name = right_name; neg = right_neg; binary = right_binary })
 

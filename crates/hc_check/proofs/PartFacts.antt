@@ -14,7 +14,7 @@ use Rattle.hc_modules.specs.Outermost.{Outermost, of_io}
 use Rattle.hc_modules.proofs.Induction.{Each}
 use Rattle.hc_term.specs.Profile.{is_expr, is_cond, is_io}
 use Rattle.hc_finds.specs.declared.rules.Rule.TheVariants as rule
-use Rattle.hc_finds.specs.Exprs.{words_in, sides, odd_divisors, nought_divisors}
+use Rattle.hc_finds.specs.Exprs.{words_in, sides, divisors_not_literal, zero_divisors}
 use Rattle.hc_finds.specs.Names.{number_in}
 use Rattle.hc_finds.specs.Limits.{channel_of, io_variables, outermost_in}
 use Rattle.hc_finds.specs.Looks.{exprs_in, sent_in}
@@ -31,16 +31,16 @@ at_most : (n : ℕ) → nat_lt 200 n ≡ false → n ≤ 200
 at_most n h = grind (arith, nat_tests)
 
 module _ (cs xs : List Word) where
-  plain_each : (es : List ExprTree) → Each (AreNamed xs) es → Each (λ e. odd_divisors false e ≡ []) es → Each (λ e. nought_divisors false e ≡ []) es
+  plain_each : (es : List ExprTree) → Each (AreNamed xs) es → Each (λ e. divisors_not_literal false e ≡ []) es → Each (λ e. zero_divisors false e ≡ []) es
       → Each (IsPlain xs) es
-  plain_each [] named odd nought = tt
-  plain_each (e ∷ es) named odd nought = (record { named = named.0; odd = odd.0; nought = nought.0 }, plain_each es named.1 odd.1 nought.1)
+  plain_each [] named literal nonzero = tt
+  plain_each (e ∷ es) named literal nonzero = (record { named = named.0; literal = literal.0; nonzero = nonzero.0 }, plain_each es named.1 literal.1 nonzero.1)
 
   -- divisors are numbers other than 0
   pub exprs_plain : (x : Part) → IsClean cs xs x → Each (AreNamed xs) (exprs_in x) → Each (IsPlain xs) (exprs_in x)
   exprs_plain x h named =
-      plain_each (exprs_in x) named (none_found (odd_divisors false) (exprs_in x) (h.lawful rule.NumberDivides))
-      (none_found (nought_divisors false) (exprs_in x) (h.lawful rule.DivisorIsNotZero))
+      plain_each (exprs_in x) named (none_found (divisors_not_literal false) (exprs_in x) (h.lawful rule.DivisorNotLiteral))
+      (none_found (zero_divisors false) (exprs_in x) (h.lawful rule.ZeroDivisor))
 
   -- none has more than 200 nodes
   pub exprs_small : (x : Part) → IsClean cs xs x → Each (λ o. o.size ≤ 200) (outermost_in x)

@@ -25,7 +25,7 @@ module _ (cs xs : List Word) where
       both (domain_ruled cs xs rs p c h)
       (exprs.domain xs (evolving rs) (pattern cs xs rs) (pattern_agrees xs rs) c
       (each_joined (exprs.IsPlain xs) (λ e. (moves_of (evolving rs) e).products ≡ []) (sides c) (domain_plain cs xs rs p c h)
-      (none_found (λ e. (moves_of (evolving rs) e).products) (sides c) (h.lawful rule.IsAffine))))
+      (none_found (λ e. (moves_of (evolving rs) e).products) (sides c) (h.lawful rule.NotAffine))))
 
   pub evolution_ruled : (rs : List RateTree) (p : Place) (c : CondTree) (gs : List Guard) → IsTrue (nat_le 1 (length rs))
       → Each (IsClean cs xs) (rates_from rs [] rs) → IsClean cs xs (domain rs p c) → AreClean cs xs rs [] gs

@@ -10,7 +10,7 @@ use Rattle.hc_modules.proofs.Induction.{Each}
 use Rattle.hc_term.specs.Motion.{Rates, evolves, form}
 use Rattle.hc_term.specs.EndMoment.{is_domain}
 use Rattle.hc_term.specs.Profile.{is_expr, is_cond}
-use Rattle.hc_finds.specs.Exprs.{sides, odd_divisors, nought_divisors, is_among, moves_of}
+use Rattle.hc_finds.specs.Exprs.{sides, divisors_not_literal, zero_divisors, is_among, moves_of}
 use Rattle.hc_finds.specs.Names.{number_in}
 use Rattle.hc_finds.proofs.ExprForms as inside
 use Rattle.hc_check.specs.Numbered.{expr_over, cond_over}
@@ -25,8 +25,8 @@ use Rattle.hc_check.proofs.TermForms as term
 -- an expression whose names are among these and whose divisors are numbers other than 0
 pub record IsPlain (xs : List Word) (e : ExprTree) : Type 0 where
   pub named : AreNamed xs e
-  pub odd : odd_divisors false e ≡ []
-  pub nought : nought_divisors false e ≡ []
+  pub literal : divisors_not_literal false e ≡ []
+  pub nonzero : zero_divisors false e ≡ []
 
 -- the variables of these names evolve, and no others
 abbrev pub Agree : List Word → List Word → Rates → Type 0
@@ -41,7 +41,7 @@ module _ (xs ys : List Word) (r : Rates) (agree : Agree xs ys r) where
   IsLinear e = IsPlain xs e × ((moves_of ys e).products ≡ [])
 
   pub affine : (e : ExprTree) → IsLinear e → IsTrue (form r (expr_over xs e)).affine
-  affine e h = (lines xs ys r agree e false h.0.named h.0.odd h.0.nought h.1).affine
+  affine e h = (lines xs ys r agree e false h.0.named h.0.literal h.0.nonzero h.1).affine
 
   abbrev IsDomain : CondTree → Type 0
   IsDomain c = Each IsLinear (sides c) → IsTrue (is_domain r (cond_over xs c))

@@ -62,7 +62,7 @@ module _ (cs xs : List Word) (rs : List RateTree) where
   ios_differ : (earlier : List IoTree) (gs : List Guard) → AreClean earlier gs → Differ same_way earlier (ios gs)
   ios_differ earlier [] h = tt
   ios_differ earlier (g ∷ gs) h = (
-    nothing_there (list_any (λ j. same_way j g.io) earlier) g.place (h.0.lawful rule.GuardsDiffer),
+    nothing_there (list_any (λ j. same_way j g.io) earlier) g.place (h.0.lawful rule.RepeatedGuard),
     ios_differ (earlier ++ g.io ∷ []) gs (later earlier g gs h).1,
   )
 
@@ -90,7 +90,7 @@ module _ (cs xs : List Word) (rs : List RateTree) where
   all_send earlier [] h = refl
   all_send earlier (g ∷ gs) h =
       both (sends g.io (guard_plain cs xs rs earlier g.place g.io h.0)
-      (none_found (λ e. (moves_of (evolving rs) e).products) (sent_in g.io) (h.0.lawful rule.IsAffine)))
+      (none_found (λ e. (moves_of (evolving rs) e).products) (sent_in g.io) (h.0.lawful rule.NotAffine)))
       (all_send (earlier ++ g.io ∷ []) gs (later earlier g gs h).1)
 
   pub insides : (earlier : List IoTree) (gs : List Guard) → AreClean earlier gs → Each (λ g. Each (IsClean cs xs) g.inside) gs

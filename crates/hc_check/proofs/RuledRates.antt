@@ -16,7 +16,7 @@ use Rattle.hc_term.specs.Motion.{Rates, evolves, form}
 use Rattle.hc_term.specs.Profile.{all_apart, pattern_from, pattern_of, same_variable, is_rate, are_rates}
 use Rattle.hc_term.proofs.Used.{list_any-map}
 use Rattle.hc_finds.specs.declared.rules.Rule.TheVariants as rule
-use Rattle.hc_finds.specs.Exprs.{Named, names_in, is_among, moves_of}
+use Rattle.hc_finds.specs.Exprs.{NameAt, names_in, is_among, moves_of}
 use Rattle.hc_finds.specs.Looks.{evolving}
 use Rattle.hc_finds.specs.Names.{number_in}
 use Rattle.hc_finds.specs.Parts.{rate, rates_from}
@@ -96,12 +96,12 @@ module _ (ys : List Word) where
   apart_steps : ExprSteps IsApart
   apart_steps = record {
     number = λ e d is h. of.moves-number e d is ys;
-    name = λ e x is h. of.moves-name e x is ys ∙ (subst (λ (ns : List Named). Each (λ n. is_among ys n.word ≡ false) ns) (of.names-name e x is) h).0;
+    name = λ e x is h. of.moves-name e x is ys ∙ (subst (λ (ns : List NameAt). Each (λ n. is_among ys n.word ≡ false) ns) (of.names-name e x is) h).0;
     neg = λ e a is f h. ap (λ m. m.moves) (inside.moves-neg e a is ys)
-        ∙ f (subst (λ (ns : List Named). Each (λ n. is_among ys n.word ≡ false) ns) (inside.names-neg e a is) h);
+        ∙ f (subst (λ (ns : List NameAt). Each (λ n. is_among ys n.word ≡ false) ns) (inside.names-neg e a is) h);
     binary = λ e op a b is f g h.
         let parts = each_both (λ n. is_among ys n.word ≡ false) (names_in a) (names_in b)
-        (subst (λ (ns : List Named). Each (λ n. is_among ys n.word ≡ false) ns) (inside.names-binary e op a b is) h) in
+        (subst (λ (ns : List NameAt). Each (λ n. is_among ys n.word ≡ false) ns) (inside.names-binary e op a b is) h) in
         inside.moves-binary e op a b is ys ∙ neither (f parts.0) (g parts.1);
   }
 
@@ -120,7 +120,7 @@ module _ (cs xs : List Word) where
   rate_moves_not all earlier r h =
       let none = each_weaker (λ n. only_if (is_among (evolving all) n.word) n.place ≡ []) (λ n. is_among (evolving all) n.word ≡ false)
       (λ n k. nothing_there (is_among (evolving all) n.word) n.place k) (names_in r.value)
-      (none_found (λ (n : Named). only_if (is_among (evolving all) n.word) n.place) (names_in r.value) (h.lawful rule.RatesAreConstant)) in
+      (none_found (λ (n : NameAt). only_if (is_among (evolving all) n.word) n.place) (names_in r.value) (h.lawful rule.RateEvolves)) in
       moves_same xs (evolving all) (pattern all) (pattern_agrees xs all) r.value h.variables.1 ∙ moves_not (evolving all) r.value none
 
   each_rate : (all earlier rs : List RateTree) → Each (IsClean cs xs) (rates_from all earlier rs)
@@ -146,7 +146,7 @@ module _ (cs xs : List Word) where
   rates_differ all earlier [] h = tt
   rates_differ all earlier (r ∷ rs) h = (
     sym (list_any-map (λ y. same_word y r.variable) (λ q. q.variable) earlier)
-        ∙ nothing_there (is_among (evolving earlier) r.variable) r.place (h.0.lawful rule.RatesDiffer),
+        ∙ nothing_there (is_among (evolving earlier) r.variable) r.place (h.0.lawful rule.RepeatedRate),
     rates_differ all (earlier ++ r ∷ []) rs h.1,
   )
 

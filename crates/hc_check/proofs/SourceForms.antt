@@ -14,15 +14,15 @@ use Rattle.hc_ast.specs.declared.expr.CondKind.TheViews as test
 use Rattle.hc_ast.specs.declared.expr.CondTree.{CondTree}
 use Rattle.hc_modules.specs.Finds.{only_if}
 use Rattle.hc_modules.specs.Sizes.{nodes, cond_nodes}
-use Rattle.hc_finds.specs.Exprs.{Named, names_in, words_in, odd_divisors, nought_divisors, is_nought, is_among, moves_of}
+use Rattle.hc_finds.specs.Exprs.{NameAt, names_in, words_in, divisors_not_literal, zero_divisors, is_zero, is_among, moves_of}
 
 module _ (e : ExprTree) where
   module _ (d : Decimal) (is : e.kind ≡ plain.Number d) where
     pub nodes-number : nodes e ≡ 1
     nodes-number = search (rules, kinds.the_lemmas)
 
-    pub nought-number : (b : Bool) → nought_divisors b e ≡ only_if (b && is_nought d) e.place
-    nought-number b = search (rules, kinds.the_lemmas)
+    pub zero-number : (b : Bool) → zero_divisors b e ≡ only_if (b && is_zero d) e.place
+    zero-number b = search (rules, kinds.the_lemmas)
 
     pub moves-number : (ys : List Word) → (moves_of ys e).moves ≡ false
     moves-number ys = search (rules, kinds.the_lemmas)
@@ -34,14 +34,14 @@ module _ (e : ExprTree) where
     pub nodes-name : nodes e ≡ 1
     nodes-name = search (rules, kinds.the_lemmas)
 
-    pub names-name : names_in e ≡ (let n : Named = record { place = e.place; word = x } in n) ∷ []
+    pub names-name : names_in e ≡ (let n : NameAt = record { place = e.place; word = x } in n) ∷ []
     names-name = search (rules, kinds.the_lemmas)
 
     pub words-name : words_in e ≡ x ∷ []
     words-name = search (rules, kinds.the_lemmas)
 
-    pub odd-name : (b : Bool) → odd_divisors b e ≡ only_if b e.place
-    odd-name b = search (rules, kinds.the_lemmas)
+    pub not_literal-name : (b : Bool) → divisors_not_literal b e ≡ only_if b e.place
+    not_literal-name b = search (rules, kinds.the_lemmas)
 
     pub moves-name : (ys : List Word) → (moves_of ys e).moves ≡ is_among ys x
     moves-name ys = search (rules, kinds.the_lemmas)

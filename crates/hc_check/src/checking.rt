@@ -10,7 +10,7 @@ ghost use Rattle.hc_check.specs.Numbered.{process_over};
 ghost use Rattle.hc_check.specs.Checked.{IsChecked, IsRefused, IsStop, IsSystemOrMemory, IsStopOrMemory};
 
 use crate::numbering::{Numbering, number_stmts};
-use hc_finds::{CheckStop, Limited, unrefused};
+use hc_finds::{CheckStop, NameTables, unrefused};
 use hc_frac::Name;
 use hc_list::List;
 use hc_modules::{Flat, FlatProcess};
@@ -56,31 +56,31 @@ fn number_process(
 /// Processes against which nothing is found, over their names.
 fn number_processes(
     alloc: Global,
-    limited: &Limited,
+    tables: &NameTables,
     processes: &[FlatProcess],
 ) -> Result<List<Process>, AllocError>
     requires nothing_found { refusals processes.now ≡ [] }
-    requires channels { limited.now.channels.keys ≡ channels_of processes.now }
-    requires variables { map (λ s. s.keys) limited.now.variables ≡ map variables_of processes.now }
+    requires channels { tables.now.channels.keys ≡ channels_of processes.now }
+    requires variables { map (λ s. s.keys) tables.now.variables ≡ map variables_of processes.now }
     ensures { IfOk result (λ ps. ps ≡ map (process_over (channels_of processes.now)) processes.now) }
 {
     let mut found = List::new(alloc);
-    for (variables, process) in limited.variables.as_slice().iter().zip(processes) {
-        found.push(number_process(alloc, &limited.channels, variables, process)?)?;
+    for (variables, process) in tables.variables.as_slice().iter().zip(processes) {
+        found.push(number_process(alloc, &tables.channels, variables, process)?)?;
     }
     Ok(found)
 }
 
 /// The system of an expanded source against which nothing is found, over its names.
-fn system_of(alloc: Global, flat: &Flat, limited: &Limited) -> Result<System, AllocError>
+fn system_of(alloc: Global, flat: &Flat, tables: &NameTables) -> Result<System, AllocError>
     requires flat { IsFlat flat.now }
     requires nothing_found { refusals flat.now.processes ≡ [] }
-    requires channels { limited.now.channels.keys ≡ channels_of flat.now.processes }
-    requires variables { map (λ s. s.keys) limited.now.variables ≡ map variables_of flat.now.processes }
+    requires channels { tables.now.channels.keys ≡ channels_of flat.now.processes }
+    requires variables { map (λ s. s.keys) tables.now.variables ≡ map variables_of flat.now.processes }
     ensures { IfOk result (IsChecked flat.now) }
 {
-    let processes = number_processes(alloc, limited, flat.processes.as_slice())?;
-    let channels = listed(alloc, &limited.channels)?;
+    let processes = number_processes(alloc, tables, flat.processes.as_slice())?;
+    let channels = listed(alloc, &tables.channels)?;
     Ok(System::new(processes, channels))
 }
 
@@ -98,6 +98,6 @@ pub fn check(alloc: Global, flat: &Flat) -> Result<System, CheckStop>
     ensures every_system { (sys : Numbered) → IsChecked flat.now sys → IsSystemOrMemory sys result }
     ensures every_refusal { (stop : Stop) → IsRefused flat.now stop → IsStopOrMemory stop result }
 {
-    let limited = unrefused(alloc, flat.processes.as_slice())?;
-    Ok(system_of(alloc, flat, &limited)?)
+    let tables = unrefused(alloc, flat.processes.as_slice())?;
+    Ok(system_of(alloc, flat, &tables)?)
 }

@@ -11,18 +11,18 @@ use Rattle.hc_ast.specs.declared.expr.CondKind.TheVariants as plain
 use Rattle.hc_ast.specs.declared.expr.CondTree.{CondTree}
 use Rattle.hc_ast.specs.Bare.{Word}
 use Rattle.hc_modules.specs.Finds.{only_if}
-use Rattle.hc_finds.specs.Exprs.{names_in, sides, is_division, is_product, odd_divisors, nought_divisors, moves_of}
+use Rattle.hc_finds.specs.Exprs.{names_in, sides, is_division, is_product, divisors_not_literal, zero_divisors, moves_of}
 
 module _ (e : ExprTree) where
   module _ (a : ExprTree) (is : e.kind ≡ seen.Neg a) where
     pub names-neg : names_in e ≡ names_in a
     names-neg = search (rules, kinds.the_lemmas)
 
-    pub odd-neg : (d : Bool) → odd_divisors d e ≡ only_if d e.place ++ odd_divisors false a
-    odd-neg d = search (rules, kinds.the_lemmas)
+    pub not_literal-neg : (d : Bool) → divisors_not_literal d e ≡ only_if d e.place ++ divisors_not_literal false a
+    not_literal-neg d = search (rules, kinds.the_lemmas)
 
-    pub nought-neg : (d : Bool) → nought_divisors d e ≡ nought_divisors false a
-    nought-neg d = search (rules, kinds.the_lemmas)
+    pub zero-neg : (d : Bool) → zero_divisors d e ≡ zero_divisors false a
+    zero-neg d = search (rules, kinds.the_lemmas)
 
     pub moves-neg : (xs : List Word) → moves_of xs e ≡ moves_of xs a
     moves-neg xs = search (rules, kinds.the_lemmas)
@@ -31,11 +31,11 @@ module _ (e : ExprTree) where
     pub names-binary : names_in e ≡ names_in a ++ names_in b
     names-binary = search (rules, kinds.the_lemmas)
 
-    pub odd-binary : (d : Bool) → odd_divisors d e ≡ odd_divisors false a ++ only_if d e.place ++ odd_divisors (is_division op) b
-    odd-binary d = search (rules, kinds.the_lemmas)
+    pub not_literal-binary : (d : Bool) → divisors_not_literal d e ≡ divisors_not_literal false a ++ only_if d e.place ++ divisors_not_literal (is_division op) b
+    not_literal-binary d = search (rules, kinds.the_lemmas)
 
-    pub nought-binary : (d : Bool) → nought_divisors d e ≡ nought_divisors false a ++ nought_divisors (is_division op) b
-    nought-binary d = search (rules, kinds.the_lemmas)
+    pub zero-binary : (d : Bool) → zero_divisors d e ≡ zero_divisors false a ++ zero_divisors (is_division op) b
+    zero-binary d = search (rules, kinds.the_lemmas)
 
     pub moves-binary : (xs : List Word) → (moves_of xs e).moves ≡ ((moves_of xs a).moves || (moves_of xs b).moves)
     moves-binary xs = search (rules, kinds.the_lemmas)
@@ -60,4 +60,4 @@ module _ (x : CondTree) where
     pub sides-or : sides x ≡ sides y ++ sides z
     sides-or = search (rules, cond_kinds.the_lemmas)
 
-pub ruleset forms = (names-neg, names-binary, odd-neg, odd-binary, nought-neg, nought-binary, moves-neg, moves-binary, products-binary, sides-compare, sides-not, sides-and, sides-or)
+pub ruleset forms = (names-neg, names-binary, not_literal-neg, not_literal-binary, zero-neg, zero-binary, moves-neg, moves-binary, products-binary, sides-compare, sides-not, sides-and, sides-or)

@@ -3,6 +3,6 @@ pub mod First
 pub mod ExprForms
 pub mod Along
 pub mod Noted
-pub mod SelfChannels
+pub mod Ends
 pub mod Tallied
 pub mod InTurn

@@ -16,19 +16,19 @@ use Rattle.hc_modules.specs.Finds.{only_if}
 -- ---- names
 
 -- a name where it stands
-pub record Named : Type 0 where
+pub record NameAt : Type 0 where
   pub place : Place
   pub word : Word
 
-abbrev pub names_layer : ExprKind-F (Place → List Named) (List Named) → Place → List Named
+abbrev pub names_layer : ExprKind-F (Place → List NameAt) (List NameAt) → Place → List NameAt
 names_layer (ExprKind-F.Number d) p = []
 names_layer (ExprKind-F.Name x) p = record { place = p; word = x } ∷ []
 names_layer (ExprKind-F.Neg a) p = a
 names_layer (ExprKind-F.Binary op a b) p = a ++ b
 
 -- the names in an expression
-abbrev pub names_in : ExprTree → List Named
-names_in e = fold-ExprTree (Place → List Named) (List Named) names_layer (λ t. t.kind t.place) e
+abbrev pub names_in : ExprTree → List NameAt
+names_in e = fold-ExprTree (Place → List NameAt) (List NameAt) names_layer (λ t. t.kind t.place) e
 
 abbrev pub words_in : ExprTree → List Word
 words_in e = map (λ n. n.word) (names_in e)
@@ -51,30 +51,30 @@ abbrev pub is_division : Op → Bool
 is_division sign.Div = true
 is_division _ = false
 
-abbrev pub odd_layer : ExprKind-F (Bool → Place → List Place) (Bool → List Place) → Bool → Place → List Place
-odd_layer (ExprKind-F.Number d) divides p = []
-odd_layer (ExprKind-F.Name x) divides p = only_if divides p
-odd_layer (ExprKind-F.Neg a) divides p = only_if divides p ++ a false
-odd_layer (ExprKind-F.Binary op a b) divides p = a false ++ only_if divides p ++ b (is_division op)
+abbrev pub not_literal_layer : ExprKind-F (Bool → Place → List Place) (Bool → List Place) → Bool → Place → List Place
+not_literal_layer (ExprKind-F.Number d) divides p = []
+not_literal_layer (ExprKind-F.Name x) divides p = only_if divides p
+not_literal_layer (ExprKind-F.Neg a) divides p = only_if divides p ++ a false
+not_literal_layer (ExprKind-F.Binary op a b) divides p = a false ++ only_if divides p ++ b (is_division op)
 
 -- the divisors that are no numbers in an expression, which is a divisor itself or not
-abbrev pub odd_divisors : Bool → ExprTree → List Place
-odd_divisors divides e =
-    fold-ExprTree (Bool → Place → List Place) (Bool → List Place) odd_layer (λ t. λ b. t.kind b t.place) e divides
+abbrev pub divisors_not_literal : Bool → ExprTree → List Place
+divisors_not_literal divides e =
+    fold-ExprTree (Bool → Place → List Place) (Bool → List Place) not_literal_layer (λ t. λ b. t.kind b t.place) e divides
 
-abbrev pub is_nought : Decimal → Bool
-is_nought d = unsigned_abs d.digits == 0
+abbrev pub is_zero : Decimal → Bool
+is_zero d = unsigned_abs d.digits == 0
 
-abbrev pub nought_layer : ExprKind-F (Bool → Place → List Place) (Bool → List Place) → Bool → Place → List Place
-nought_layer (ExprKind-F.Number d) divides p = only_if (divides && is_nought d) p
-nought_layer (ExprKind-F.Name x) divides p = []
-nought_layer (ExprKind-F.Neg a) divides p = a false
-nought_layer (ExprKind-F.Binary op a b) divides p = a false ++ b (is_division op)
+abbrev pub zero_layer : ExprKind-F (Bool → Place → List Place) (Bool → List Place) → Bool → Place → List Place
+zero_layer (ExprKind-F.Number d) divides p = only_if (divides && is_zero d) p
+zero_layer (ExprKind-F.Name x) divides p = []
+zero_layer (ExprKind-F.Neg a) divides p = a false
+zero_layer (ExprKind-F.Binary op a b) divides p = a false ++ b (is_division op)
 
 -- the divisors that are the number 0
-abbrev pub nought_divisors : Bool → ExprTree → List Place
-nought_divisors divides e =
-    fold-ExprTree (Bool → Place → List Place) (Bool → List Place) nought_layer (λ t. λ b. t.kind b t.place) e divides
+abbrev pub zero_divisors : Bool → ExprTree → List Place
+zero_divisors divides e =
+    fold-ExprTree (Bool → Place → List Place) (Bool → List Place) zero_layer (λ t. λ b. t.kind b t.place) e divides
 
 -- ---- what evolves
 

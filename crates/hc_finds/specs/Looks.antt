@@ -9,7 +9,7 @@ use Rattle.hc_ast.specs.declared.stmt.IoTree.TheVariants as io_of
 use Rattle.hc_ast.specs.declared.stmt.RateTree.{RateTree}
 use Rattle.hc_modules.specs.Bindings.{same_word}
 use Rattle.hc_modules.specs.Finds.{only_if}
-use Rattle.hc_finds.specs.Exprs.{names_in, sides, odd_divisors, nought_divisors, is_among, moves_of}
+use Rattle.hc_finds.specs.Exprs.{names_in, sides, divisors_not_literal, zero_divisors, is_among, moves_of}
 use Rattle.hc_finds.specs.Parts.{Part, assign, compute, test, communicate, rate, domain, guard}
 
 -- the value that a communication sends
@@ -28,25 +28,25 @@ exprs_in (domain rs p c) = sides c
 exprs_in (guard rs earlier p i) = sent_in i
 
 -- a divisor that is no number; a divisor that is 0
-abbrev pub odd_in : Part → List Place
-odd_in x = flat_map (odd_divisors false) (exprs_in x)
+abbrev pub divisor_not_literal : Part → List Place
+divisor_not_literal x = flat_map (divisors_not_literal false) (exprs_in x)
 
-abbrev pub nought_in : Part → List Place
-nought_in x = flat_map (nought_divisors false) (exprs_in x)
+abbrev pub zero_divisor : Part → List Place
+zero_divisor x = flat_map (zero_divisors false) (exprs_in x)
 
 -- the variables that evolve at these rates
 abbrev pub evolving : List RateTree → List Word
 evolving rs = map (λ r. r.variable) rs
 
 -- a rate of a variable that has one before
-abbrev pub rated_again : Part → List Place
-rated_again (rate all earlier r) = only_if (is_among (evolving earlier) r.variable) r.place
-rated_again x = []
+abbrev pub repeated_rate : Part → List Place
+repeated_rate (rate all earlier r) = only_if (is_among (evolving earlier) r.variable) r.place
+repeated_rate x = []
 
 -- an evolving variable in a rate of its evolution
-abbrev pub evolves_in_rate : Part → List Place
-evolves_in_rate (rate all earlier r) = flat_map (λ n. only_if (is_among (evolving all) n.word) n.place) (names_in r.value)
-evolves_in_rate x = []
+abbrev pub rate_evolves : Part → List Place
+rate_evolves (rate all earlier r) = flat_map (λ n. only_if (is_among (evolving all) n.word) n.place) (names_in r.value)
+rate_evolves x = []
 
 -- the products of these expressions with evolving variables on both sides
 abbrev pub products_in : List RateTree → List ExprTree → List Place
@@ -65,6 +65,6 @@ same_way (io_of.Receive c x) (io_of.Receive d y) = same_word c d
 same_way _ _ = false
 
 -- a branch on a channel that an earlier branch has in the same direction
-abbrev pub guarded_again : Part → List Place
-guarded_again (guard rs earlier p i) = only_if (list_any (λ j. same_way j i) earlier) p
-guarded_again x = []
+abbrev pub repeated_guard : Part → List Place
+repeated_guard (guard rs earlier p i) = only_if (list_any (λ j. same_way j i) earlier) p
+repeated_guard x = []

@@ -5,17 +5,20 @@ use Rattle.hc_finds.specs.declared.stop.CheckStop.{CheckStop}
 use Rattle.hc_finds.specs.declared.stop.CheckStop.TheVariants as stop
 use Rattle.hc_finds.specs.Parts.{Part, parts_of}
 use Rattle.hc_finds.specs.Rules.{rules, broken}
-use Rattle.hc_finds.specs.Uses.{Use, uses_of, on_both_ends, shared_ends}
+use Rattle.hc_finds.specs.Uses.{Use, uses_of, self_channels, shared_ends}
 use Rattle.hc_finds.specs.Limits.{beyond_limits}
 
--- the parts of all processes in the order of the text
+-- the parts of a process, and of all, in the order of the text
+abbrev pub parts_in : FlatProcess → List Part
+parts_in p = parts_of false p.body
+
 abbrev pub all_parts : List FlatProcess → List Part
-all_parts ps = flat_map (λ p. parts_of false p.body) ps
+all_parts ps = flat_map parts_in ps
 
 -- what is found at the ends of channels, where the processes use them so
 abbrev pub bad_ends : List (List Use) → List CheckStop
 bad_ends us =
-    map stop.SelfChannel (flat_map on_both_ends us)
+    map stop.SelfChannel (flat_map self_channels us)
     ++ map stop.TwoSenders (shared_ends true us)
     ++ map stop.TwoReceivers (shared_ends false us)
 

@@ -10,21 +10,21 @@ use Rattle.hc_finds.specs.Looks as look
 
 -- where a part breaks a rule
 abbrev pub breaks : Rule → Part → List Place
-breaks rule.NumberDivides x = look.odd_in x
-breaks rule.DivisorIsNotZero x = look.nought_in x
-breaks rule.RatesDiffer x = look.rated_again x
-breaks rule.RatesAreConstant x = look.evolves_in_rate x
-breaks rule.IsAffine x = look.not_affine x
-breaks rule.GuardsDiffer x = look.guarded_again x
+breaks rule.DivisorNotLiteral x = look.divisor_not_literal x
+breaks rule.ZeroDivisor x = look.zero_divisor x
+breaks rule.RepeatedRate x = look.repeated_rate x
+breaks rule.RateEvolves x = look.rate_evolves x
+breaks rule.NotAffine x = look.not_affine x
+breaks rule.RepeatedGuard x = look.repeated_guard x
 
 -- how it is refused
 abbrev pub refused_by : Rule → Place → CheckStop
-refused_by rule.NumberDivides p = stop.DivisorNotLiteral p
-refused_by rule.DivisorIsNotZero p = stop.ZeroDivisor p
-refused_by rule.RatesDiffer p = stop.RepeatedRate p
-refused_by rule.RatesAreConstant p = stop.RateEvolves p
-refused_by rule.IsAffine p = stop.NotAffine p
-refused_by rule.GuardsDiffer p = stop.RepeatedGuard p
+refused_by rule.DivisorNotLiteral p = stop.DivisorNotLiteral p
+refused_by rule.ZeroDivisor p = stop.ZeroDivisor p
+refused_by rule.RepeatedRate p = stop.RepeatedRate p
+refused_by rule.RateEvolves p = stop.RateEvolves p
+refused_by rule.NotAffine p = stop.NotAffine p
+refused_by rule.RepeatedGuard p = stop.RepeatedGuard p
 
 -- all places where these parts break a rule
 abbrev pub broken : Rule → List Part → List CheckStop
@@ -33,5 +33,5 @@ broken r xs = map (refused_by r) (flat_map (breaks r) xs)
 -- the rules in the order in which they are asked
 abbrev pub rules : List Rule
 rules =
-    rule.NumberDivides ∷ rule.DivisorIsNotZero ∷ rule.RatesDiffer ∷ rule.RatesAreConstant
-    ∷ rule.IsAffine ∷ rule.GuardsDiffer ∷ []
+    rule.DivisorNotLiteral ∷ rule.ZeroDivisor ∷ rule.RepeatedRate ∷ rule.RateEvolves
+    ∷ rule.NotAffine ∷ rule.RepeatedGuard ∷ []

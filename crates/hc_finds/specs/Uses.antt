@@ -38,8 +38,8 @@ abbrev pub is_use : Bool → Word → Use → Bool
 is_use sends c u = goes sends u && same_word u.channel c
 
 -- a use of a channel that its process, which has these uses, uses in the other direction before
-abbrev pub on_both_ends : List Use → List Place
-on_both_ends us = along (λ before u. only_if (list_any (is_use (not u.sends) u.channel) before) u.place) [] us
+abbrev pub self_channels : List Use → List Place
+self_channels us = along (λ before u. only_if (list_any (is_use (not u.sends) u.channel) before) u.place) [] us
 
 -- whether one of the processes that have these uses sends on the channel, or receives
 abbrev pub have_use : Bool → Word → List (List Use) → Bool

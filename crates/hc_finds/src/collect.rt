@@ -1,10 +1,10 @@
 //! The parts and uses of all processes.
 
-ghost use Rattle.std.specs.Prelude.{◌≡◌, ◌++◌, false, map, IfOk};
+ghost use Rattle.std.specs.Prelude.{◌≡◌, ◌++◌, map, flat_map, IfOk};
 ghost use Rattle.hc_finds.specs.Parts as spec;
-ghost use Rattle.hc_finds.specs.Refusals.{all_parts};
-ghost use Rattle.hc_finds.specs.Seen.{seen, uses_seen, all_uses};
-ghost use Rattle.hc_finds.specs.Uses.{uses_of};
+ghost use Rattle.hc_finds.specs.Refusals.{parts_in};
+ghost use Rattle.hc_finds.specs.Seen.{seen, each_seen, all_uses};
+ghost use Rattle.hc_finds.specs.Uses.{uses_in};
 
 use crate::parts::{Part, add_all};
 use crate::uses::{Use, uses_in};
@@ -25,38 +25,30 @@ pub(crate) fn parts_of<'a>(
     Ok(parts)
 }
 
-/// The parts of all processes, as the tokens stand.
-pub(crate) fn parts_of_all<'a>(
+/// The parts of each process, as the tokens stand.
+pub(crate) fn parts_of_each<'a>(
     alloc: Global,
     processes: &'a [FlatProcess],
-) -> Result<Vec<Part<'a>>, AllocError>
-    ensures { IfOk result (λ ps. seen ps.items ≡ all_parts processes.now) }
+) -> Result<Vec<Vec<Part<'a>>>, AllocError>
+    ensures { IfOk result (λ ps. each_seen ps.items ≡ map parts_in processes.now) }
 {
     let mut parts = Vec::new(alloc);
     for process in processes {
-        add_all(&mut parts, false, process.body.as_slice())?;
+        parts.push(parts_of(alloc, false, process.body.as_slice())?)?;
     }
     Ok(parts)
 }
 
-/// The uses of channels by one process.
-fn uses_of_process<'a>(alloc: Global, process: &'a FlatProcess) -> Result<Vec<Use<'a>>, AllocError>
-    ensures { IfOk result (λ us. uses_seen us.items ≡ uses_of process.now) }
-{
-    let parts = parts_of(alloc, false, process.body.as_slice())?;
-    uses_in(alloc, parts.as_slice())
-}
-
 /// The uses of channels by each process.
-pub(crate) fn uses_of_all<'a>(
+pub(crate) fn uses_of_each<'a>(
     alloc: Global,
-    processes: &'a [FlatProcess],
+    processes: &[Vec<Part<'a>>],
 ) -> Result<Vec<Vec<Use<'a>>>, AllocError>
-    ensures { IfOk result (λ us. all_uses us.items ≡ map uses_of processes.now) }
+    ensures { IfOk result (λ us. all_uses us.items ≡ map (flat_map uses_in) (each_seen processes.now)) }
 {
     let mut uses = Vec::new(alloc);
-    for process in processes {
-        uses.push(uses_of_process(alloc, process)?)?;
+    for parts in processes {
+        uses.push(uses_in(alloc, parts)?)?;
     }
     Ok(uses)
 }

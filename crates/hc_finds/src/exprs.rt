@@ -17,20 +17,20 @@ pub(crate) fn only_if(holds: bool, place: Place) -> Option<Place>
 
 /// The first divisor that is no number, in an expression that is a divisor itself or not.
 #[tactic(auto, using(crate::proofs::First::firsts, crate::proofs::ExprForms::forms))]
-pub(crate) fn odd_divisor(divides: bool, expr: &ExprTree) -> Option<Place>
-    ensures { result ≡ slice_get (spec.odd_divisors divides expr.now) 0 }
+pub(crate) fn first_not_literal(divides: bool, expr: &ExprTree) -> Option<Place>
+    ensures { result ≡ slice_get (spec.divisors_not_literal divides expr.now) 0 }
 {
     match &expr.kind {
         ExprKind::Number(_) => None,
         ExprKind::Name(_) => only_if(divides, expr.place),
         ExprKind::Neg(part) => {
             let here = only_if(divides, expr.place);
-            here.or(odd_divisor(false, part.get()))
+            here.or(first_not_literal(false, part.get()))
         }
         ExprKind::Binary(op, left, right) => {
-            let before = odd_divisor(false, left.get());
+            let before = first_not_literal(false, left.get());
             let here = only_if(divides, expr.place);
-            let behind = odd_divisor(is_division(*op), right.get());
+            let behind = first_not_literal(is_division(*op), right.get());
             before.or(here).or(behind)
         }
     }
@@ -56,16 +56,16 @@ fn is_product(op: Op) -> bool
 
 /// The first divisor that is 0.
 #[tactic(auto, using(crate::proofs::First::firsts, crate::proofs::ExprForms::forms))]
-pub(crate) fn nought_divisor(divides: bool, expr: &ExprTree) -> Option<Place>
-    ensures { result ≡ slice_get (spec.nought_divisors divides expr.now) 0 }
+pub(crate) fn first_zero(divides: bool, expr: &ExprTree) -> Option<Place>
+    ensures { result ≡ slice_get (spec.zero_divisors divides expr.now) 0 }
 {
     match &expr.kind {
         ExprKind::Number(number) => only_if(divides && number.digits() == 0, expr.place),
         ExprKind::Name(_) => None,
-        ExprKind::Neg(part) => nought_divisor(false, part.get()),
+        ExprKind::Neg(part) => first_zero(false, part.get()),
         ExprKind::Binary(op, left, right) => {
-            let before = nought_divisor(false, left.get());
-            before.or(nought_divisor(is_division(*op), right.get()))
+            let before = first_zero(false, left.get());
+            before.or(first_zero(is_division(*op), right.get()))
         }
     }
 }
@@ -134,39 +134,39 @@ pub(crate) fn moves_of(rates: &[RateTree], expr: &ExprTree) -> Moves
 
 /// The first divisor that is no number, in the sides of a condition's comparisons.
 #[tactic(auto, using(crate::proofs::First::firsts, crate::proofs::ExprForms::forms))]
-pub(crate) fn odd_divisor_in(cond: &CondTree) -> Option<Place>
-    ensures { result ≡ slice_get (flat_map (spec.odd_divisors false) (spec.sides cond.now)) 0 }
+pub(crate) fn first_not_literal_in(cond: &CondTree) -> Option<Place>
+    ensures { result ≡ slice_get (flat_map (spec.divisors_not_literal false) (spec.sides cond.now)) 0 }
 {
     match &cond.kind {
         CondKind::True | CondKind::False => None,
         CondKind::Compare(_, left, right) => {
-            let before = odd_divisor(false, left.get());
-            before.or(odd_divisor(false, right.get()))
+            let before = first_not_literal(false, left.get());
+            before.or(first_not_literal(false, right.get()))
         }
-        CondKind::Not(part) => odd_divisor_in(part.get()),
-        CondKind::And(left, right) => odd_divisor_in(left.get()).or(odd_divisor_in(right.get())),
-        CondKind::Or(left, right) => odd_divisor_in(left.get()).or(odd_divisor_in(right.get())),
+        CondKind::Not(part) => first_not_literal_in(part.get()),
+        CondKind::And(left, right) => first_not_literal_in(left.get()).or(first_not_literal_in(
+            right.get(),
+        )),
+        CondKind::Or(left, right) => first_not_literal_in(left.get()).or(first_not_literal_in(
+            right.get(),
+        )),
     }
 }
 
 /// The first divisor that is 0.
 #[tactic(auto, using(crate::proofs::First::firsts, crate::proofs::ExprForms::forms))]
-pub(crate) fn nought_divisor_in(cond: &CondTree) -> Option<Place>
-    ensures { result ≡ slice_get (flat_map (spec.nought_divisors false) (spec.sides cond.now)) 0 }
+pub(crate) fn first_zero_in(cond: &CondTree) -> Option<Place>
+    ensures { result ≡ slice_get (flat_map (spec.zero_divisors false) (spec.sides cond.now)) 0 }
 {
     match &cond.kind {
         CondKind::True | CondKind::False => None,
         CondKind::Compare(_, left, right) => {
-            let before = nought_divisor(false, left.get());
-            before.or(nought_divisor(false, right.get()))
+            let before = first_zero(false, left.get());
+            before.or(first_zero(false, right.get()))
         }
-        CondKind::Not(part) => nought_divisor_in(part.get()),
-        CondKind::And(left, right) => nought_divisor_in(left.get()).or(nought_divisor_in(
-            right.get(),
-        )),
-        CondKind::Or(left, right) => nought_divisor_in(left.get()).or(nought_divisor_in(
-            right.get(),
-        )),
+        CondKind::Not(part) => first_zero_in(part.get()),
+        CondKind::And(left, right) => first_zero_in(left.get()).or(first_zero_in(right.get())),
+        CondKind::Or(left, right) => first_zero_in(left.get()).or(first_zero_in(right.get())),
     }
 }
 

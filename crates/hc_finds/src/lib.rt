@@ -3,14 +3,14 @@
 
 mod collect;
 mod exprs;
-mod limited;
 mod limits;
 mod names;
 mod parts;
 mod phases;
 mod rules;
 mod stop;
+mod tables;
 mod uses;
 
-pub use limited::{Limited, unrefused};
 pub use stop::{CheckStop, What};
+pub use tables::{NameTables, unrefused};

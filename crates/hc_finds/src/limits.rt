@@ -1,6 +1,6 @@
 //! The limits on guards, channels, variables and nodes.
 
-ghost use Rattle.std.specs.Prelude.{◌≡◌, ◌++◌, [], map, min, nat_lt, length, flat_map, slice_get, Some, OnOk, IfErr, option_map};
+ghost use Rattle.std.specs.Prelude.{◌≡◌, ◌++◌, [], map, nat_lt, length, flat_map, slice_get, Some, OnOk, IfErr, option_map};
 ghost use Rattle.hc_limits.specs.Limits.{most_nodes};
 ghost use Rattle.hc_modules.specs.Finds.{only_if};
 ghost use Rattle.hc_modules.specs.Outermost.{of_io};
@@ -16,48 +16,11 @@ use crate::exprs::only_if;
 use crate::names::{note, note_variables};
 use crate::parts::Part;
 use crate::stop::{CheckStop, What};
-use hc_ast::{CondKind, CondTree, ExprKind, ExprTree, IoTree};
+use hc_ast::{CondTree, ExprTree, IoTree};
 use hc_frac::{Name, Place};
 use hc_limits::{MOST_CHANNELS, MOST_GUARDS, MOST_NODES, MOST_VARIABLES};
+use hc_modules::{cond_nodes_of, nodes_of};
 use indexmap::IndexSet;
-
-/// The nodes of an expression.
-fn nodes_of(expr: &ExprTree) -> u32
-    ensures { result ≡ min (size.nodes expr.now) 4294967295 }
-{
-    match &expr.kind {
-        ExprKind::Number(_) | ExprKind::Name(_) => 1,
-        ExprKind::Neg(part) => nodes_of(part.get()).saturating_add(1),
-        ExprKind::Binary(_, left, right) => {
-            let left = nodes_of(left.get());
-            left.saturating_add(nodes_of(right.get())).saturating_add(1)
-        }
-    }
-}
-
-/// Those of a condition, its expressions counted.
-fn nodes_of_cond(cond: &CondTree) -> u32
-    ensures { result ≡ min (size.cond_nodes cond.now) 4294967295 }
-{
-    match &cond.kind {
-        CondKind::True | CondKind::False => 1,
-        CondKind::Compare(_, left, right) => {
-            let left = nodes_of(left.get());
-            left.saturating_add(nodes_of(right.get())).saturating_add(1)
-        }
-        CondKind::Not(part) => nodes_of_cond(part.get()).saturating_add(1),
-        CondKind::And(left, right) => {
-            let left = nodes_of_cond(left.get());
-            left.saturating_add(nodes_of_cond(right.get()))
-                .saturating_add(1)
-        }
-        CondKind::Or(left, right) => {
-            let left = nodes_of_cond(left.get());
-            left.saturating_add(nodes_of_cond(right.get()))
-                .saturating_add(1)
-        }
-    }
-}
 
 /// The root of an expression with too many nodes.
 fn long_expr(expr: &ExprTree) -> Option<Place>
@@ -70,7 +33,7 @@ fn long_expr(expr: &ExprTree) -> Option<Place>
 fn long_cond(cond: &CondTree) -> Option<Place>
     ensures { result ≡ slice_get (only_if (nat_lt most_nodes (size.cond_nodes cond.now)) cond.now.place) 0 }
 {
-    only_if(nodes_of_cond(cond) > MOST_NODES, cond.place)
+    only_if(cond_nodes_of(cond) > MOST_NODES, cond.place)
 }
 
 fn long_sent(io: &IoTree) -> Option<Place>
@@ -157,14 +120,14 @@ fn limit_nodes(part: Part<'_>) -> Result<(), CheckStop>
 
 /// The names so far, each at its first occurrence.
 #[derive(Drop)]
-pub(crate) struct Named {
+pub(crate) struct NamesSoFar {
     /// Of all channels.
     pub(crate) channels: IndexSet<Name>,
     /// Of the variables of one process.
     pub(crate) variables: IndexSet<Name>,
 }
 
-impl Named {
+impl NamesSoFar {
     /// Notes the channel of a part, of which there may be so many as the limit says.
     fn limit_channels(&mut self, part: Part<'_>) -> Result<(), CheckStop>
         ensures ok { OnOk result (tally.channels_over self.old.channels.keys (part_of part.entry) ≡ []) }

@@ -52,11 +52,7 @@ fn note_cond(names: &mut IndexSet<Name>, cond: &CondTree) -> Result<(), AllocErr
             note_expr(names, right.get())
         }
         CondKind::Not(part) => note_cond(names, part.get()),
-        CondKind::And(left, right) => {
-            note_cond(names, left.get())?;
-            note_cond(names, right.get())
-        }
-        CondKind::Or(left, right) => {
+        CondKind::And(left, right) | CondKind::Or(left, right) => {
             note_cond(names, left.get())?;
             note_cond(names, right.get())
         }

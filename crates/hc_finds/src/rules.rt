@@ -1,7 +1,7 @@
 //! The rules on the parts of a process.
 
 ghost use Rattle.std.specs.Prelude.{◌≡◌, false, ◌++◌, map, slice_get, flat_map, option_map};
-ghost use Rattle.hc_finds.specs.Exprs.{odd_divisors, nought_divisors, is_among};
+ghost use Rattle.hc_finds.specs.Exprs.{divisors_not_literal, zero_divisors, is_among};
 ghost use Rattle.hc_finds.specs.Looks as look;
 ghost use Rattle.hc_finds.specs.Rules as spec;
 ghost use Rattle.hc_finds.specs.Seen.{part_of, seen, exprs_of};
@@ -9,8 +9,8 @@ ghost use Rattle.std.specs.List.{list_any};
 ghost use Rattle.hc_finds.specs.Seen.{io_in};
 
 use crate::exprs::{
-    evolving_name, is_evolving, moves_of, nought_divisor, nought_divisor_in, odd_divisor,
-    odd_divisor_in, only_if, product_in,
+    evolving_name, first_not_literal, first_not_literal_in, first_zero, first_zero_in, is_evolving,
+    moves_of, only_if, product_in,
 };
 use crate::parts::Part;
 use crate::stop::CheckStop;
@@ -20,16 +20,16 @@ use hc_frac::Place;
 /// A rule on the parts of a process.
 #[derive(Clone, Copy, Debug, PartialEq, Eq)]
 pub enum Rule {
-    NumberDivides,
-    DivisorIsNotZero,
+    DivisorNotLiteral,
+    ZeroDivisor,
     /// Each variable has one rate at most in an evolution.
-    RatesDiffer,
+    RepeatedRate,
     /// A rate mentions no variable that evolves in the same evolution.
-    RatesAreConstant,
+    RateEvolves,
     /// In a domain and in what a guard of an evolution sends, no product has evolving variables on both sides.
-    IsAffine,
+    NotAffine,
     /// No choice has two branches on one channel in one direction.
-    GuardsDiffer,
+    RepeatedGuard,
 }
 
 /// The expressions of a part.
@@ -63,24 +63,24 @@ pub(crate) fn contents<'a>(part: Part<'a>) -> Exprs<'a>
 }
 
 /// A divisor that is no number.
-fn odd(part: Part<'_>) -> Option<Place>
-    ensures { result ≡ slice_get (look.odd_in (part_of part.entry)) 0 }
+fn divisor_not_literal(part: Part<'_>) -> Option<Place>
+    ensures { result ≡ slice_get (look.divisor_not_literal (part_of part.entry)) 0 }
 {
     match contents(part) {
         Exprs::None => None,
-        Exprs::One(expr) => odd_divisor(false, expr),
-        Exprs::Sides(cond) => odd_divisor_in(cond),
+        Exprs::One(expr) => first_not_literal(false, expr),
+        Exprs::Sides(cond) => first_not_literal_in(cond),
     }
 }
 
 /// A divisor that is 0.
-fn nought(part: Part<'_>) -> Option<Place>
-    ensures { result ≡ slice_get (look.nought_in (part_of part.entry)) 0 }
+fn zero_divisor(part: Part<'_>) -> Option<Place>
+    ensures { result ≡ slice_get (look.zero_divisor (part_of part.entry)) 0 }
 {
     match contents(part) {
         Exprs::None => None,
-        Exprs::One(expr) => nought_divisor(false, expr),
-        Exprs::Sides(cond) => nought_divisor_in(cond),
+        Exprs::One(expr) => first_zero(false, expr),
+        Exprs::Sides(cond) => first_zero_in(cond),
     }
 }
 
@@ -131,12 +131,12 @@ impl Rule {
         ensures { result ≡ slice_get (spec.breaks self (part_of part.entry)) 0 }
     {
         match self {
-            Rule::NumberDivides => odd(part),
-            Rule::DivisorIsNotZero => nought(part),
-            Rule::RatesDiffer => rated_again(part),
-            Rule::RatesAreConstant => evolves_in_rate(part),
-            Rule::IsAffine => not_affine(part),
-            Rule::GuardsDiffer => guarded_again(part),
+            Rule::DivisorNotLiteral => divisor_not_literal(part),
+            Rule::ZeroDivisor => zero_divisor(part),
+            Rule::RepeatedRate => repeated_rate(part),
+            Rule::RateEvolves => rate_evolves(part),
+            Rule::NotAffine => not_affine(part),
+            Rule::RepeatedGuard => repeated_guard(part),
         }
     }
 
@@ -145,12 +145,12 @@ impl Rule {
         ensures { result ≡ spec.refused_by self place }
     {
         match self {
-            Rule::NumberDivides => CheckStop::DivisorNotLiteral { place },
-            Rule::DivisorIsNotZero => CheckStop::ZeroDivisor { place },
-            Rule::RatesDiffer => CheckStop::RepeatedRate { place },
-            Rule::RatesAreConstant => CheckStop::RateEvolves { place },
-            Rule::IsAffine => CheckStop::NotAffine { place },
-            Rule::GuardsDiffer => CheckStop::RepeatedGuard { place },
+            Rule::DivisorNotLiteral => CheckStop::DivisorNotLiteral { place },
+            Rule::ZeroDivisor => CheckStop::ZeroDivisor { place },
+            Rule::RepeatedRate => CheckStop::RepeatedRate { place },
+            Rule::RateEvolves => CheckStop::RateEvolves { place },
+            Rule::NotAffine => CheckStop::NotAffine { place },
+            Rule::RepeatedGuard => CheckStop::RepeatedGuard { place },
         }
     }
 
@@ -168,8 +168,8 @@ impl Rule {
 }
 
 /// A rate of a variable that has one before.
-fn rated_again(part: Part<'_>) -> Option<Place>
-    ensures { result ≡ slice_get (look.rated_again (part_of part.entry)) 0 }
+fn repeated_rate(part: Part<'_>) -> Option<Place>
+    ensures { result ≡ slice_get (look.repeated_rate (part_of part.entry)) 0 }
 {
     match part {
         Part::Rate { earlier, rate, .. } => only_if(
@@ -181,8 +181,8 @@ fn rated_again(part: Part<'_>) -> Option<Place>
 }
 
 /// An evolving variable in a rate of its evolution.
-fn evolves_in_rate(part: Part<'_>) -> Option<Place>
-    ensures { result ≡ slice_get (look.evolves_in_rate (part_of part.entry)) 0 }
+fn rate_evolves(part: Part<'_>) -> Option<Place>
+    ensures { result ≡ slice_get (look.rate_evolves (part_of part.entry)) 0 }
 {
     match part {
         Part::Rate { all, rate, .. } => evolving_name(all, &rate.value),
@@ -191,8 +191,8 @@ fn evolves_in_rate(part: Part<'_>) -> Option<Place>
 }
 
 /// A branch on a channel that an earlier branch has in the same direction.
-fn guarded_again(part: Part<'_>) -> Option<Place>
-    ensures { result ≡ slice_get (look.guarded_again (part_of part.entry)) 0 }
+fn repeated_guard(part: Part<'_>) -> Option<Place>
+    ensures { result ≡ slice_get (look.repeated_guard (part_of part.entry)) 0 }
 {
     match part {
         Part::Guard {

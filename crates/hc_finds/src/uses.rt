@@ -1,14 +1,18 @@
 //! The uses of channels.
 
-ghost use Rattle.std.specs.Prelude.{◌≡◌, ◌++◌, [], not, map, flat_map, slice_get, OnOk, IfOk};
+ghost use Rattle.std.specs.Prelude.{◌≡◌, ◌++◌, ◌∷◌, [], List, not, map, flat_map, slice_get, OnOk, IfOk};
 ghost use Rattle.std.specs.List.{list_any};
+ghost use Rattle.hc_modules.specs.Bindings.{same_word};
+ghost use Rattle.hc_modules.specs.Outermost.{in_a_row};
 ghost use Rattle.hc_finds.specs.Uses as spec;
-ghost use Rattle.hc_finds.specs.Seen.{part_of, seen, use_of, uses_seen, all_uses};
+ghost use Rattle.hc_finds.specs.Uses.{Use as Used};
+ghost use Rattle.hc_finds.specs.Seen.{part_of, seen, use_of, uses_seen, all_uses, channels_at, AreEnds};
 
-use crate::exprs::only_if;
+use crate::names::note;
 use crate::parts::Part;
 use hc_ast::IoTree;
 use hc_frac::{Name, Place};
+use indexmap::IndexSet;
 use std::alloc::{AllocError, Global};
 
 /// A statement or branch that sends on a channel, or receives from it.
@@ -58,48 +62,79 @@ fn goes(sends: bool, end: Use<'_>) -> bool
     if sends { end.sends } else { !end.sends }
 }
 
-/// Whether a process that has these uses sends on the channel, or receives.
-fn has_use(sends: bool, channel: &Name, uses: &[Use<'_>]) -> bool
-    ensures { result ≡ list_any (spec.is_use sends channel.now) (uses_seen uses.now) }
-{
-    for other in uses {
-        if goes(sends, *other) && *other.channel == *channel {
-            return true;
+/// The ends of channels: those on which something is sent, and those from which something is received.
+#[derive(Drop)]
+pub(crate) struct Ends {
+    pub(crate) sent: IndexSet<Name>,
+    pub(crate) received: IndexSet<Name>,
+}
+
+impl Ends {
+    /// None.
+    fn new(alloc: Global) -> Ends
+        ensures { AreEnds result [] }
+    {
+        Ends {
+            sent: IndexSet::new(alloc),
+            received: IndexSet::new(alloc),
         }
     }
-    false
+
+    /// Whether something is sent on the channel, or received from it.
+    fn has(&self, sends: bool, channel: &Name) -> bool
+        ensures { result ≡ list_any (same_word channel.now) (channels_at sends self.now) }
+    {
+        if sends {
+            self.sent.contains(channel)
+        } else {
+            self.received.contains(channel)
+        }
+    }
+
+    /// Adds a use.
+    fn add(&mut self, end: Use<'_>) -> Result<(), AllocError>
+        ensures { OnOk result ((us : List Used) → AreEnds self.old us → AreEnds self.new (us ++ use_of end.entry ∷ [])) }
+    {
+        if end.sends {
+            note(&mut self.sent, end.channel)?;
+            Ok(())
+        } else {
+            note(&mut self.received, end.channel)?;
+            Ok(())
+        }
+    }
+
+    /// Adds uses.
+    fn add_all(&mut self, uses: &[Use<'_>]) -> Result<(), AllocError>
+        ensures { OnOk result ((us : List Used) → AreEnds self.old us → AreEnds self.new (us ++ uses_seen uses.now)) }
+    {
+        for end in uses {
+            self.add(*end)?;
+        }
+        Ok(())
+    }
 }
 
 /// The first use of a channel that its process uses in the other direction before.
-pub(crate) fn on_both_ends(uses: &[Use<'_>]) -> Option<Place>
-    ensures { result ≡ slice_get (spec.on_both_ends (uses_seen uses.now)) 0 }
+pub(crate) fn self_channel(alloc: Global, uses: &[Use<'_>]) -> Result<Option<Place>, AllocError>
+    ensures { IfOk result (λ found. found ≡ slice_get (spec.self_channels (uses_seen uses.now)) 0) }
 {
-    for (at, other) in uses.iter().enumerate() {
-        if has_use(!other.sends, other.channel, &uses[..at]) {
-            return Some(other.place);
+    let mut ends = Ends::new(alloc);
+    for end in uses {
+        if ends.has(!end.sends, end.channel) {
+            return Ok(Some(end.place));
         }
+        ends.add(*end)?;
     }
-    None
+    Ok(None)
 }
 
-/// Whether one of the processes that have these uses sends on the channel, or receives.
-fn have_use(sends: bool, channel: &Name, processes: &[Vec<Use<'_>>]) -> bool
-    ensures { result ≡ spec.have_use sends channel.now (all_uses processes.now) }
-{
-    for uses in processes {
-        if has_use(sends, channel, uses) {
-            return true;
-        }
-    }
-    false
-}
-
-/// The first send, or receive, on a channel on which a process before sends, or receives.
-fn shared_in(sends: bool, before: &[Vec<Use<'_>>], uses: &[Use<'_>]) -> Option<Place>
-    ensures { result ≡ slice_get (spec.shared_in sends (all_uses before.now) (uses_seen uses.now)) 0 }
+/// The first send, or receive, on a channel that has this end before.
+fn shared_in(sends: bool, before: &Ends, uses: &[Use<'_>]) -> Option<Place>
+    ensures { (us : List (List Used)) → AreEnds before.now (in_a_row us) → result ≡ slice_get (spec.shared_in sends us (uses_seen uses.now)) 0 }
 {
     for end in uses {
-        let shares = goes(sends, *end) & have_use(sends, end.channel, before);
+        let shares = goes(sends, *end) & before.has(sends, end.channel);
         if shares {
             return Some(end.place);
         }
@@ -108,13 +143,19 @@ fn shared_in(sends: bool, before: &[Vec<Use<'_>>], uses: &[Use<'_>]) -> Option<P
 }
 
 /// The first send, or receive, on a channel on which an earlier process sends, or receives.
-pub(crate) fn shared_end(sends: bool, processes: &[Vec<Use<'_>>]) -> Option<Place>
-    ensures { result ≡ slice_get (spec.shared_ends sends (all_uses processes.now)) 0 }
+pub(crate) fn shared_end(
+    alloc: Global,
+    sends: bool,
+    processes: &[Vec<Use<'_>>],
+) -> Result<Option<Place>, AllocError>
+    ensures { IfOk result (λ found. found ≡ slice_get (spec.shared_ends sends (all_uses processes.now)) 0) }
 {
-    for (at, uses) in processes.iter().enumerate() {
-        if let Some(place) = shared_in(sends, &processes[..at], uses) {
-            return Some(place);
+    let mut before = Ends::new(alloc);
+    for uses in processes {
+        if let Some(place) = shared_in(sends, &before, uses) {
+            return Ok(Some(place));
         }
+        before.add_all(uses)?;
     }
-    None
+    Ok(None)
 }

@@ -14,25 +14,25 @@ number_process-requires-clause-channels c =
 
 pub number_process-requires-clause-variables : goal.number_process-requires-clause-variables
 number_process-requires-clause-variables c =
-    let turn = zip_turn c.args.limited.now.variables c.args.processes.now c.loop-variables.yielded
+    let turn = zip_turn c.args.tables.now.variables c.args.processes.now c.loop-variables.yielded
     c.into_iter-variables-iterator.result c.loop-variables.variables-iterator c.next.new.self c.next.result (cc) (cc)
     c.loop-variables.yielded_by (c.in-Some.variables, c.in-Some.process) c.in-Some.is c.next.ensures.steps in
-    at_one_place (λ s. s.keys) variables_of c.args.limited.now.variables c.args.processes.now (length c.loop-variables.yielded)
+    at_one_place (λ s. s.keys) variables_of c.args.tables.now.variables c.args.processes.now (length c.loop-variables.yielded)
     c.in-Some.variables.now c.in-Some.process.now c.requires.variables turn.0 turn.1 (turn.2 _) (turn.3 _)
 
 pub number_process-requires-clause-few : goal.number_process-requires-clause-few
 number_process-requires-clause-few c =
-    let turn = zip_turn c.args.limited.now.variables c.args.processes.now c.loop-variables.yielded
+    let turn = zip_turn c.args.tables.now.variables c.args.processes.now c.loop-variables.yielded
     c.into_iter-variables-iterator.result c.loop-variables.variables-iterator c.next.new.self c.next.result (cc) (cc)
     c.loop-variables.yielded_by (c.in-Some.variables, c.in-Some.process) c.in-Some.is c.next.ensures.steps in
-    let same = at_one_place (λ s. s.keys) variables_of c.args.limited.now.variables c.args.processes.now (length c.loop-variables.yielded)
+    let same = at_one_place (λ s. s.keys) variables_of c.args.tables.now.variables c.args.processes.now (length c.loop-variables.yielded)
     c.in-Some.variables.now c.in-Some.process.now c.requires.variables turn.0 turn.1 (turn.2 _) (turn.3 _) in
     let few = few_at c.args.processes.now (length c.loop-variables.yielded) c.in-Some.process.now c.requires.nothing_found turn.1 (turn.3 _) in
     omega (arith, few, ap length same)
 
 pub loop-variables-preserved : goal.loop-variables-preserved
 loop-variables-preserved c =
-    let turn = zip_turn c.args.limited.now.variables c.args.processes.now c.loop-variables.yielded
+    let turn = zip_turn c.args.tables.now.variables c.args.processes.now c.loop-variables.yielded
     c.into_iter-variables-iterator.result c.loop-variables.variables-iterator c.next.new.self c.next.result (cc) (cc)
     c.loop-variables.yielded_by (c.in-Some.variables, c.in-Some.process) c.in-Some.is c.next.ensures.steps in
     let ps = c.args.processes.now in

@@ -12,7 +12,7 @@ use Rattle.hc_finds.proofs.exprs.+evolving_name.Goals as goal
 pub returns-in-Binary : goal.returns-in-Binary
 returns-in-Binary t c =
     let is = form.names-binary c.args.expr.now c.in-Binary.field-0 c.in-Binary.left c.in-Binary.right (cc) in
-    let look : spec.Named → List Place = λ n. only_if (spec.is_among (evolving c.args.rates.now) n.word) n.place in
+    let look : spec.NameAt → List Place = λ n. only_if (spec.is_among (evolving c.args.rates.now) n.word) n.place in
     let before = spec.names_in c.in-Binary.left in
     let behind = spec.names_in c.in-Binary.right in
     cc (is, flat_map-append look before behind, first-append (flat_map look before) (flat_map look behind))
