@@ -18,7 +18,7 @@ use Rattle.hc_ast.specs.declared.expr.ExprTree.{ExprTree}
 use Rattle.hc_term.specs.declared.form.Form.{Form}
 use Rattle.hc_term.specs.Motion.{Rates, evolves, allowed, form}
 use Rattle.hc_modules.specs.Finds.{only_if}
-use Rattle.hc_finds.specs.Exprs.{divisors_not_literal, zero_divisors, is_zero, is_division, is_product, is_among, moves_of}
+use Rattle.hc_finds.specs.Exprs.{divisors_not_literal, zero_divisors, is_zero as is_zero_number, is_division, is_product, is_among, moves_of}
 use Rattle.hc_finds.specs.Names.{number_in}
 use Rattle.hc_finds.proofs.ExprForms as inside
 use Rattle.hc_check.specs.Numbered.{op_of, expr_over}
@@ -98,11 +98,11 @@ module _ (xs ys : List Word) (r : Rates)
   right_number : (e : ExprTree) (n : Decimal) → e.kind ≡ plain.Number n → IsRight e
   right_number e n is d named literal nonzero products =
       let shape = ap (form r) (over.over-Number xs e n is) ∙ term.form-Number r (quotient n.digits (10 ^ n.places)) in
-      let none : (d && is_zero n) ≡ false = nothing_there (d && is_zero n) e.place (sym (of.zero-number e n is d) ∙ nonzero) in
+      let none : (d && is_zero_number n) ≡ false = nothing_there (d && is_zero_number n) e.place (sym (of.zero-number e n is d) ∙ nonzero) in
       record {
         affine = ap (λ (t : Form). t.affine) shape;
         divisor = λ t. ap (λ (f : Form). f.divides) shape
-            ∙ not_nought n.digits (10 ^ n.places) (ten_power n.places) (ap (λ b. b && is_zero n) (sym t) ∙ none);
+            ∙ not_nought n.digits (10 ^ n.places) (ten_power n.places) (ap (λ b. b && is_zero_number n) (sym t) ∙ none);
       }
 
   right_name : (e : ExprTree) (x : Word) → e.kind ≡ plain.Name x → IsRight e

@@ -1,11 +1,12 @@
-//! Answers rows of questions to the core, one a line: the silent steps of a process, the run of a system, the end moment
-//! of a domain, and copies.
+//! Answers rows of questions to the core, one a line: the silent steps of a process, the run of a system, turns whose steps
+//! are worked out beside it, the end moment of a domain, and copies.
 #![tactic(auto)]
 
 mod accepting;
 mod acts;
 mod copying;
 mod ending;
+mod handing;
 mod runner;
 mod running;
 mod showing;
@@ -14,6 +15,7 @@ mod stepping;
 use accepting::system_of;
 use copying::copies_of;
 use ending::{end_of, end_of_many};
+use handing::hands_of;
 use hc_term::System;
 use running::run_of;
 use std::alloc::{AllocError, Global};
@@ -25,6 +27,7 @@ fn answer_about(alloc: Global, question: &str, system: &System) -> Result<String
     match question.split_once(' ') {
         Some(("steps", words)) => steps_of(alloc, words, system),
         Some(("run", words)) => run_of(alloc, words, system),
+        Some(("hands", words)) => hands_of(alloc, words, system),
         Some(("end", _)) => end_of(alloc, system),
         Some(("many", count)) => end_of_many(alloc, count),
         Some(("copy", _)) => copies_of(alloc, system),

@@ -8,7 +8,7 @@ use hc_term::{Item, Step, Stop, System, Task};
 use std::alloc::{AllocError, Global};
 
 /// A step with the clock before it.
-fn put_step(text: &mut String, item: &Item) -> Result<(), AllocError> {
+pub(crate) fn put_step(text: &mut String, item: &Item) -> Result<(), AllocError> {
     put_item(text, item.at.text().as_str())?;
     match &item.step {
         Step::Silent { process, logged } => {
@@ -33,7 +33,7 @@ fn put_step(text: &mut String, item: &Item) -> Result<(), AllocError> {
 }
 
 /// How a run stopped.
-fn put_stop(text: &mut String, stop: Stop) -> Result<(), AllocError> {
+pub(crate) fn put_stop(text: &mut String, stop: Stop) -> Result<(), AllocError> {
     match stop {
         Stop::Terminated => put_item(text, "terminated"),
         Stop::Deadlock => put_item(text, "deadlock"),
@@ -50,7 +50,11 @@ fn put_stop(text: &mut String, stop: Stop) -> Result<(), AllocError> {
 }
 
 /// All steps so far, or their number alone; then the stop and the number of turns.
-fn put_run(text: &mut String, joint: &Joint, is_counted: bool) -> Result<(), AllocError> {
+pub(crate) fn put_run(
+    text: &mut String,
+    joint: &Joint,
+    is_counted: bool,
+) -> Result<(), AllocError> {
     let history = joint.history();
     if is_counted {
         put_item(text, "steps")?;
@@ -68,15 +72,25 @@ fn put_run(text: &mut String, joint: &Joint, is_counted: bool) -> Result<(), All
     put_number(text, joint.turns())
 }
 
-/// The task of simulating a copy of the system, where its numbers are in range.
-fn task_of(
+/// The task of simulating a copy of the system with these words, where they are numbers in range; `-` is a horizon of 100.
+pub(crate) fn task_of(
     alloc: Global,
     system: &System,
-    horizon: Option<Frac>,
-    limit: u32,
-    seed: u64,
+    horizon: &str,
+    limit: &str,
+    seed: &str,
 ) -> Result<Option<Task>, AllocError> {
+    let horizon = match horizon {
+        "-" => Frac::new(DEFAULT_HORIZON, 1),
+        word => Frac::read(word.as_bytes()),
+    };
     let Some(horizon) = horizon else {
+        return Ok(None);
+    };
+    let Ok(limit) = limit.parse::<u32>() else {
+        return Ok(None);
+    };
+    let Ok(seed) = seed.parse::<u64>() else {
         return Ok(None);
     };
     if horizon.sign() <= 0 || limit < 1 || u64::from(limit) > MOST_STEPS {
@@ -88,16 +102,9 @@ fn task_of(
 /// The answer to `HORIZON LIMIT SEED HOW`: the run of the system that comes of `HOW`.
 pub(crate) fn run_of(alloc: Global, words: &str, system: &System) -> Result<String, AllocError> {
     let mut words = words.split_whitespace();
-    let horizon = match words.next().unwrap_or("") {
-        "-" => Frac::new(DEFAULT_HORIZON, 1),
-        word => Frac::read(word.as_bytes()),
-    };
-    let Ok(limit) = words.next().unwrap_or("").parse::<u32>() else {
-        return String::from_str(alloc, "unknown");
-    };
-    let Ok(seed) = words.next().unwrap_or("").parse::<u64>() else {
-        return String::from_str(alloc, "unknown");
-    };
+    let horizon = words.next().unwrap_or("");
+    let limit = words.next().unwrap_or("");
+    let seed = words.next().unwrap_or("");
     let Some(task) = task_of(alloc, system, horizon, limit, seed)? else {
         return String::from_str(alloc, "unknown");
     };
