@@ -1,7 +1,7 @@
 #!/usr/bin/env python3
 """How the time of `hcsp check` grows with the text, over the worst shapes of a source.
 
-Prints a table: for each shape the seconds of processor, the least of five, at about 250,000, 500,000 and 1,048,576 bytes, and how many times the time
+Prints a table: for each shape the seconds of processor, the least of twelve, at about 250,000, 500,000 and 1,048,576 bytes, and how many times the time
 grows where the size doubles. Build the program first (`./hcsp check < examples/tank.hcsp`).
 """
 import resource
@@ -95,7 +95,7 @@ def seconds(text):
     with tempfile.TemporaryFile() as source:
         source.write(text.encode())
         best = None
-        for _ in range(5):
+        for _ in range(12):
             source.seek(0)
             before = resource.getrusage(resource.RUSAGE_CHILDREN)
             subprocess.run([PROGRAM, "check"], stdin=source, stdout=subprocess.DEVNULL, stderr=subprocess.DEVNULL, timeout=600)
