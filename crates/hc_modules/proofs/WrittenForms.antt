@@ -1,5 +1,5 @@
 -- What each form of a statement writes, as its parts do one after the other.
-use Rattle.std.proofs.Common.{rules, ◌≡◌, refl, ap, sym, ◌∙◌, List, [], ◌∷◌, ◌++◌, map, flat_map, Option, Some, None, Result, Ok, Err}
+use Rattle.std.proofs.Common.{rules, ◌≡◌, ap, ◌∙◌, List, [], ◌++◌, map, flat_map, Option, Some, None, Result, Ok}
 use Rattle.std.proofs.lemmas.List.{append-nil}
 use Rattle.std.proofs.lemmas.List.Folds.{flat_map-map}
 use Rattle.std.proofs.lemmas.Grind.{flat_map-append}
@@ -12,31 +12,9 @@ use Rattle.hc_ast.specs.declared.stmt.BranchTree.{BranchTree, out-BranchTree}
 use Rattle.hc_ast.specs.declared.stmt.RateTree.{RateTree}
 use Rattle.hc_modules.specs.Found.{first_of}
 use Rattle.hc_modules.specs.Outermost.{in_a_row, Written, written, branch_written, written_layer, written_branch, by_rate, by_io}
+use Rattle.hc_modules.proofs.Firsts.{first_then, first_of-append, nothing_then}
 use Rattle.hc_modules.proofs.Rows.{rows, both_rows}
 use Rattle.hc_modules.proofs.Folds.{fold-choose}
-
--- what is found first in one list, or else in the next
-abbrev pub first_then : Result (Unit {0}) Place → Result (Unit {0}) Place → Result (Unit {0}) Place
-first_then (Ok u) r = r
-first_then (Err p) r = Err p
-
-pub first_of-append : (xs ys : List Place) → first_of (xs ++ ys) ≡ first_then (first_of xs) (first_of ys)
-first_of-append [] ys = refl
-first_of-append (x ∷ xs) ys = refl
-
--- the second search is made where the first finds nothing
-pub goes_on : (whole first second before after : Result (Unit {0}) Place) (u : Unit {0}) → whole ≡ first_then first second
-    → before ≡ first → before ≡ Ok u → after ≡ second → after ≡ whole
-goes_on whole first second before after u e f g h = h ∙ sym (e ∙ ap (λ r. first_then r second) (sym f ∙ g))
-
--- and only there
-pub ends : (whole first second before after : Result (Unit {0}) Place) (p : Place) → whole ≡ first_then first second
-    → before ≡ first → before ≡ Err p → (q : Place) × (after ≡ Err q) × (q ≡ p) → after ≡ whole
-ends whole first second before after p e f g h = h.1 ∙ ap Err h.2 ∙ sym (e ∙ ap (λ r. first_then r second) (sym f ∙ g))
-
-nothing_then : (r : Result (Unit {0}) Place) → r ≡ first_then r (Ok tt)
-nothing_then (Ok u) = refl
-nothing_then (Err p) = refl
 
 module _ (look : Written → List Place) where
   abbrev pub found : StmtTree → Result (Unit {0}) Place

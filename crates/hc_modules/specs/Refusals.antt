@@ -1,11 +1,13 @@
 -- What the processes of a source are by themselves, and where a source has none.
-use Rattle.std.specs.Prelude.{◌≡◌, List, [], ◌++◌, map, slice_get, Some, Result, Ok, Err}
+use Rattle.std.specs.Prelude.{◌≡◌, List, [], ◌++◌, map, slice_get, Some, IfSome, Result}
+use Rattle.hc_grammar.specs.Exact as exact
 use Rattle.hc_token.specs.declared.token.Token.{Token}
 use Rattle.hc_ast.specs.declared.tree.Tree.{Tree}
 use Rattle.hc_ast.specs.Source.{IsTreeOf}
 use Rattle.hc_modules.specs.declared.flat.Flat.{Flat}
 use Rattle.hc_modules.specs.declared.flat.ModuleStop.{ModuleStop}
 use Rattle.hc_modules.specs.declared.flat.ModuleStop.TheVariants as stop
+use Rattle.hc_modules.specs.Found.{told}
 use Rattle.hc_modules.specs.Expansion.{expansion}
 use Rattle.hc_modules.specs.Sizes.{all_statements}
 use Rattle.hc_modules.specs.Outermost.{all_outermost}
@@ -63,17 +65,8 @@ pub record IsFlat (flat : Flat) : Type 0 where
 
 -- the tree is refused so; want of memory says nothing of it
 abbrev pub IsStop : Tree → ModuleStop → Type 0
-IsStop t stop.Memory = Unit {0}
-IsStop t s = IsRefused t s
+IsStop t s = IfSome (told s) (IsRefused t)
 
--- the answer is this list of processes, or memory ran out
-abbrev pub IsFlatOrMemory : Flat → Result Flat ModuleStop → Type 0
-IsFlatOrMemory flat (Ok found) = found ≡ flat
-IsFlatOrMemory flat (Err stop.Memory) = Unit {0}
-IsFlatOrMemory flat (Err _) = ⊥
-
--- the answer is this refusal, or memory ran out
-abbrev pub IsStopOrMemory : ModuleStop → Result Flat ModuleStop → Type 0
-IsStopOrMemory s (Ok found) = ⊥
-IsStopOrMemory s (Err stop.Memory) = Unit {0}
-IsStopOrMemory s (Err found) = found ≡ s
+-- the answer to a tree is its processes by themselves, or its refusal, and both are answered unless memory runs out
+abbrev pub IsExact : Tree → Result Flat ModuleStop → Type 0
+IsExact t = exact.IsExact (λ f. f) told (IsExpansion t) (IsRefused t)

@@ -1,12 +1,9 @@
 //! Expansion.
 
 ghost use Rattle.std.specs.Prelude.{◌≡◌, [], map, IfOk, OnOk, IfErr};
-ghost use Rattle.hc_ast.specs.declared.tree.Tree.{Tree as Said};
-ghost use Rattle.hc_modules.specs.declared.flat.Flat.{Flat as Expanded};
-ghost use Rattle.hc_modules.specs.declared.flat.ModuleStop.{ModuleStop as Stop};
 ghost use Rattle.hc_modules.specs.Expansion as spec;
-ghost use Rattle.hc_modules.specs.Found.{IsFirst};
-ghost use Rattle.hc_modules.specs.Refusals.{IsExpansion, IsRefused, IsStop, IsFlatOrMemory, IsStopOrMemory, module_refusals, process_refusals, call_refusals, size_refusals, refusals};
+ghost use Rattle.hc_modules.specs.Found.{IsFirst, told};
+ghost use Rattle.hc_modules.specs.Refusals.{IsExact, module_refusals, process_refusals, call_refusals, size_refusals, refusals};
 ghost use Rattle.hc_modules.specs.Sizes.{all_statements};
 
 use crate::arguments::{no_argument_miscounted, no_argument_misfit, no_unknown_module};
@@ -24,7 +21,7 @@ use std::alloc::{AllocError, Global};
 /// Modules and their parameters must have names of their own, and no module may write a value parameter.
 fn check_modules(alloc: Global, tree: &Tree) -> Result<(), ModuleStop>
     ensures ok { OnOk result (module_refusals tree.now ≡ []) }
-    ensures stop { IfErr result (IsFirst (module_refusals tree.now)) }
+    ensures stop { IfErr result (IsFirst told (module_refusals tree.now)) }
 {
     let modules = tree.modules.as_slice();
     no_repeated_module(alloc, modules)?;
@@ -35,7 +32,7 @@ fn check_modules(alloc: Global, tree: &Tree) -> Result<(), ModuleStop>
 /// There may be 64 processes, with names of their own.
 fn check_processes(tree: &Tree) -> Result<(), ModuleStop>
     ensures ok { OnOk result (process_refusals tree.now ≡ []) }
-    ensures stop { IfErr result (IsFirst (process_refusals tree.now)) }
+    ensures stop { IfErr result (IsFirst told (process_refusals tree.now)) }
 {
     let processes = tree.processes.as_slice();
     if let Err(place) = no_process_too_many(processes) {
@@ -50,7 +47,7 @@ fn check_processes(tree: &Tree) -> Result<(), ModuleStop>
 /// Calls must fit the modules that they name.
 fn check_calls(tree: &Tree) -> Result<(), ModuleStop>
     ensures ok { OnOk result (call_refusals tree.now ≡ []) }
-    ensures stop { IfErr result (IsFirst (call_refusals tree.now)) }
+    ensures stop { IfErr result (IsFirst told (call_refusals tree.now)) }
 {
     let modules = tree.modules.as_slice();
     let processes = tree.processes.as_slice();
@@ -70,7 +67,7 @@ fn check_calls(tree: &Tree) -> Result<(), ModuleStop>
 fn check_sizes(alloc: Global, tree: &Tree) -> Result<u32, ModuleStop>
     ensures ok { OnOk result (size_refusals tree.now ≡ []) }
     ensures count { IfOk result (λ count. count ≡ all_statements (spec.expansion tree.now)) }
-    ensures stop { IfErr result (IsFirst (size_refusals tree.now)) }
+    ensures stop { IfErr result (IsFirst told (size_refusals tree.now)) }
 {
     let modules = tree.modules.as_slice();
     let processes = tree.processes.as_slice();
@@ -86,7 +83,7 @@ fn check_sizes(alloc: Global, tree: &Tree) -> Result<u32, ModuleStop>
 fn check(alloc: Global, tree: &Tree) -> Result<u32, ModuleStop>
     ensures ok { OnOk result (refusals tree.now ≡ []) }
     ensures count { IfOk result (λ count. count ≡ all_statements (spec.expansion tree.now)) }
-    ensures stop { IfErr result (IsFirst (refusals tree.now)) }
+    ensures stop { IfErr result (IsFirst told (refusals tree.now)) }
 {
     check_modules(alloc, tree)?;
     check_processes(tree)?;
@@ -128,13 +125,7 @@ fn flat_processes(
 /// The processes of a tree, each by itself, or the first refusal: of the first phase that finds something, what it finds
 /// first in the text.
 pub fn expand(alloc: Global, tree: &Tree) -> Result<Flat, ModuleStop>
-    // An answer is right.
-    ensures expansion { IfOk result (IsExpansion tree.now) }
-    ensures refusal { IfErr result (IsStop tree.now) }
-
-    // And what is right is the answer, unless memory runs out.
-    ensures every_expansion { (flat : Expanded) → IsExpansion tree.now flat → IsFlatOrMemory flat result }
-    ensures every_refusal { (stop : Stop) → IsRefused tree.now stop → IsStopOrMemory stop result }
+    ensures { IsExact tree.now result }
 {
     let statements = check(alloc, tree)?;
     let processes = flat_processes(alloc, tree.modules.as_slice(), tree.processes.as_slice())?;

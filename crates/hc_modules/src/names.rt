@@ -6,7 +6,7 @@ ghost use Rattle.indexmap.specs.IndexSet.{insert_key};
 ghost use Rattle.hc_modules.specs.declared.flat.ModuleStop.TheVariants.{RepeatedModule, RepeatedParameter};
 ghost use Rattle.hc_modules.specs.Bindings.{same_word};
 ghost use Rattle.hc_modules.specs.Finds as spec;
-ghost use Rattle.hc_modules.specs.Found.{first_of, IsFirst};
+ghost use Rattle.hc_modules.specs.Found.{first_of, IsFirst, told};
 
 use crate::flat::ModuleStop;
 use hc_ast::{ModuleDef, Param, ProcessDef};
@@ -35,7 +35,7 @@ fn is_process(processes: &[ProcessDef], name: &Name) -> bool
 /// A module with the name of an earlier one is refused.
 pub(crate) fn no_repeated_module(alloc: Global, modules: &[ModuleDef]) -> Result<(), ModuleStop>
     ensures ok { OnOk result (spec.repeated_modules modules.now ≡ []) }
-    ensures stop { IfErr result (IsFirst (map RepeatedModule (spec.repeated_modules modules.now))) }
+    ensures stop { IfErr result (IsFirst told (map RepeatedModule (spec.repeated_modules modules.now))) }
 {
     let mut names = IndexSet::new(alloc);
     for module in modules {
@@ -50,7 +50,7 @@ pub(crate) fn no_repeated_module(alloc: Global, modules: &[ModuleDef]) -> Result
 
 fn no_repeated_param(alloc: Global, params: &[Param]) -> Result<(), ModuleStop>
     ensures ok { OnOk result (spec.repeated_params params.now ≡ []) }
-    ensures stop { IfErr result (IsFirst (map RepeatedParameter (spec.repeated_params params.now))) }
+    ensures stop { IfErr result (IsFirst told (map RepeatedParameter (spec.repeated_params params.now))) }
 {
     let mut names = IndexSet::new(alloc);
     for param in params {
@@ -64,7 +64,7 @@ fn no_repeated_param(alloc: Global, params: &[Param]) -> Result<(), ModuleStop>
 /// A parameter with the name of an earlier one of its module is refused.
 pub(crate) fn no_repeated_parameter(alloc: Global, modules: &[ModuleDef]) -> Result<(), ModuleStop>
     ensures ok { OnOk result (spec.repeated_parameters modules.now ≡ []) }
-    ensures stop { IfErr result (IsFirst (map RepeatedParameter (spec.repeated_parameters modules.now))) }
+    ensures stop { IfErr result (IsFirst told (map RepeatedParameter (spec.repeated_parameters modules.now))) }
 {
     for module in modules {
         no_repeated_param(alloc, module.params.as_slice())?;

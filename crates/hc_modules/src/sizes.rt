@@ -7,7 +7,7 @@ ghost use Rattle.hc_modules.specs.declared.flat.ModuleStop.TheVariants.{TooManyN
 ghost use Rattle.hc_modules.specs.declared.nodes.NodeCount.TheVariants.{Within};
 ghost use Rattle.hc_modules.specs.Expansion.{statements_of, flat_process};
 ghost use Rattle.hc_modules.specs.Finds.{statements_too_many, nodes_too_many};
-ghost use Rattle.hc_modules.specs.Found.{count_of, IsFirst};
+ghost use Rattle.hc_modules.specs.Found.{count_of, IsFirst, told};
 ghost use Rattle.hc_modules.specs.Outermost.{all_outermost};
 ghost use Rattle.hc_modules.specs.Replaced.{stmt_in};
 ghost use Rattle.hc_modules.specs.Sizes.{all_statements, statements};
@@ -116,7 +116,7 @@ pub(crate) fn no_node_too_many(
     processes: &[ProcessDef],
 ) -> Result<(), ModuleStop>
     ensures ok { OnOk result (nodes_too_many (all_outermost (map (flat_process modules.now) processes.now)) ≡ []) }
-    ensures stop { IfErr result (IsFirst (map TooManyNodes (nodes_too_many (all_outermost (map (flat_process modules.now) processes.now))))) }
+    ensures stop { IfErr result (IsFirst told (map TooManyNodes (nodes_too_many (all_outermost (map (flat_process modules.now) processes.now))))) }
 {
     match count_nodes(alloc, modules, processes)? {
         NodeCount::Within(_) => Ok(()),

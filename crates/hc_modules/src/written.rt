@@ -7,7 +7,7 @@ ghost use Rattle.hc_modules.specs.declared.flat.ModuleStop.TheVariants.{Paramete
 ghost use Rattle.hc_modules.specs.Bindings.{same_word};
 ghost use Rattle.hc_modules.specs.Bindings as spec;
 ghost use Rattle.hc_modules.specs.Finds.{writes_parameter, parameters_written};
-ghost use Rattle.hc_modules.specs.Found.{first_of, IsFirst};
+ghost use Rattle.hc_modules.specs.Found.{first_of, IsFirst, told};
 ghost use Rattle.hc_modules.specs.Outermost as out;
 ghost use Rattle.hc_modules.specs.Tables.{AreValues, writes_among};
 
@@ -141,7 +141,7 @@ fn write_of_branches(values: &IndexSet<Name>, branches: &[BranchTree]) -> Result
 /// A write of a value parameter of its module is refused.
 fn no_write(alloc: Global, module: &ModuleDef) -> Result<(), ModuleStop>
     ensures ok { OnOk result (flat_map (writes_parameter module.now.params) (flat_map out.written module.now.body) ≡ []) }
-    ensures stop { IfErr result (IsFirst (map ParameterWritten (flat_map (writes_parameter module.now.params) (flat_map out.written module.now.body)))) }
+    ensures stop { IfErr result (IsFirst told (map ParameterWritten (flat_map (writes_parameter module.now.params) (flat_map out.written module.now.body)))) }
 {
     let values = values_of(alloc, module.params.as_slice())?;
     match write_of_stmts(&values, module.body.as_slice()) {
@@ -153,7 +153,7 @@ fn no_write(alloc: Global, module: &ModuleDef) -> Result<(), ModuleStop>
 /// The first write of a value parameter by a module is refused.
 pub(crate) fn no_parameter_written(alloc: Global, modules: &[ModuleDef]) -> Result<(), ModuleStop>
     ensures ok { OnOk result (parameters_written modules.now ≡ []) }
-    ensures stop { IfErr result (IsFirst (map ParameterWritten (parameters_written modules.now))) }
+    ensures stop { IfErr result (IsFirst told (map ParameterWritten (parameters_written modules.now))) }
 {
     for module in modules {
         no_write(alloc, module)?;

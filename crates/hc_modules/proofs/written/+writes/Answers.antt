@@ -3,7 +3,8 @@ use Rattle.std.proofs.lemmas.Result.{err_from_is_err_and}
 use Rattle.hc_modules.specs.Tables.{writes_among}
 use Rattle.hc_modules.specs.Found.{first_of}
 use Rattle.hc_modules.specs.Outermost.{by_rate}
-use Rattle.hc_modules.proofs.WrittenForms.{all_found, branches_found, else_found, found-If, found-Pick, found-Evolve, goes_on, ends}
+use Rattle.hc_modules.proofs.WrittenForms.{all_found, branches_found, else_found, found-If, found-Pick, found-Evolve}
+use Rattle.hc_modules.proofs.Firsts.{goes_on, ends}
 use Rattle.hc_modules.proofs.written.+writes.Goals as goal
 
 pub write_of_stmt-returns-in_err-write_of_stmts-in-If : goal.write_of_stmt-returns-in_err-write_of_stmts-in-If
