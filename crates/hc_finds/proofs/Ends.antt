@@ -1,5 +1,5 @@
 -- The ends of channels, one use after another.
-use Rattle.std.proofs.Common.{◌≡◌, refl, ap, ap₂, sym, ◌∙◌, ℕ, ◌+◌, ◌<◌, Bool, true, false, not, ◌&&◌, ◌||◌, List, [], ◌∷◌, ◌++◌, map, flat_map, take, drop, get_or, length, slice_get, Some, None, append_assoc}
+use Rattle.std.proofs.Common.{◌≡◌, refl, ap, ap₂, sym, subst, ◌∙◌, Option, ℕ, ◌+◌, ◌<◌, Bool, true, false, not, ◌&&◌, ◌||◌, List, [], ◌∷◌, ◌++◌, map, flat_map, take, drop, get_or, length, Ok, Err, append_assoc}
 use Rattle.std.proofs.lemmas.Grind.{flat_map-append}
 use Rattle.std.proofs.lemmas.List.{take_more, drop_more, map-append, append-nil}
 use Rattle.std.proofs.lemmas.List.Folds.{list_any-append}
@@ -9,6 +9,7 @@ use Rattle.std.specs.Cmp.Lexicographic.{nat_list_eq_equiv}
 use Rattle.indexmap.specs.IndexSet.{insert_key}
 use Rattle.hc_ast.specs.Bare.{Word}
 use Rattle.hc_modules.specs.Bindings.{same_word}
+use Rattle.hc_modules.specs.Found.{first_of, IsFirst}
 use Rattle.hc_modules.specs.Outermost.{in_a_row}
 use Rattle.hc_modules.proofs.Bound.{or_false, any_more, inserted}
 use Rattle.hc_finds.specs.declared.uses.Use as code
@@ -16,8 +17,8 @@ use Rattle.hc_finds.specs.declared.uses.Ends.{Ends}
 use Rattle.hc_finds.specs.Seen.{use_of, uses_seen, all_uses, channels_at, AreEnds}
 use Rattle.hc_frac.specs.declared.place.Place.{Place}
 use Rattle.hc_modules.specs.Finds.{only_if, along}
-use Rattle.hc_finds.proofs.First.{along-at, first-some, first-none}
-use Rattle.hc_finds.proofs.InTurn.{none-found}
+use Rattle.hc_finds.proofs.First.{along-at, first-here}
+use Rattle.hc_modules.proofs.Firsts.{none_found, first_on}
 use Rattle.hc_finds.specs.Uses.{Use, goes, is_use, have_use, shared_in, uses_in, uses_of}
 use Rattle.hc_finds.specs.Refusals.{parts_in}
 use Rattle.hc_modules.specs.declared.flat.FlatProcess.{FlatProcess}
@@ -57,7 +58,7 @@ ends_more e us xs i x h is are sends c =
     ∙ ap (λ ys. list_any (is_use sends c) (us ++ ys)) (sym (ap uses_seen (take_more xs i x h) ∙ map-append use_of (take i xs) (get_or xs i x ∷ [])))
 
 -- a use from number i on of a channel that its process uses in the other direction before
-abbrev turned : List Use → Use → List Place
+abbrev pub turned : List Use → Use → List Place
 turned before u = only_if (list_any (is_use (not u.sends) u.channel) before) u.place
 
 module _ (ends : Ends) (xs : List code.Use) (i : ℕ) (x : code.Use) (h : i < length xs) (is : x ≡ get_or xs i x)
@@ -72,13 +73,11 @@ module _ (ends : Ends) (xs : List code.Use) (i : ℕ) (x : code.Use) (h : i < le
       ∙ ap (λ y. turned (uses_seen (take i xs)) (use_of y) ++ behind) (sym is)
       ∙ ap (λ b. only_if b x.place ++ behind) (sym (told ∙ are (not x.sends) x.channel.now))
 
-  pub turned_here : turns ≡ true → slice_get (along turned (uses_seen (take i xs)) (uses_seen (drop i xs))) 0 ≡ Some x.place
-  turned_here e = ap (λ ys. slice_get ys 0) turning ∙ ap (λ b. slice_get (only_if b x.place ++ behind) 0) e
+  pub turned_here : turns ≡ true → first_of (along turned (uses_seen (take i xs)) (uses_seen (drop i xs))) ≡ Err x.place
+  turned_here e = ap first_of turning ∙ ap (λ b. first_of (only_if b x.place ++ behind)) e
 
-  pub turned_later : turns ≡ false
-      → slice_get (along turned (uses_seen (take i xs)) (uses_seen (drop i xs))) 0
-      ≡ slice_get (along turned (uses_seen (take (i + 1) xs)) (uses_seen (drop (i + 1) xs))) 0
-  turned_later e = ap (λ ys. slice_get ys 0) turning ∙ ap (λ b. slice_get (only_if b x.place ++ behind) 0) e
+  pub turned_later : turns ≡ false → along turned (uses_seen (take i xs)) (uses_seen (drop i xs)) ≡ behind
+  turned_later e = turning ∙ ap (λ b. only_if b x.place ++ behind) e
 
 -- an end that one of these lists has is one of all
 pub in_one : (sends : Bool) (c : Word) (uss : List (List Use)) → have_use sends c uss ≡ list_any (is_use sends c) (in_a_row uss)
@@ -97,12 +96,12 @@ module _ (sends : Bool) (before : Ends) (us : List (List Use)) (are : AreEnds be
       ∙ ap (λ b. only_if b (use_of x).place ++ shared_in sends us (uses_seen (drop (i + 1) xs)))
       (ap (λ b. goes sends (use_of x) && b) (in_one sends (use_of x).channel us ∙ sym (are sends (use_of x).channel)) ∙ sym told)
 
-  pub shared_here : shares ≡ true → slice_get (shared_in sends us (uses_seen (drop i xs))) 0 ≡ Some (use_of x).place
-  shared_here e = ap (λ ys. slice_get ys 0) here ∙ ap (λ b. slice_get (only_if b (use_of x).place ++ shared_in sends us (uses_seen (drop (i + 1) xs))) 0) e
+  pub shared_here : shares ≡ true → first_of (shared_in sends us (uses_seen (drop i xs))) ≡ Err (use_of x).place
+  shared_here e = ap first_of here ∙ ap (λ b. first_of (only_if b (use_of x).place ++ shared_in sends us (uses_seen (drop (i + 1) xs)))) e
 
   pub shared_later : shares ≡ false
-      → slice_get (shared_in sends us (uses_seen (drop i xs))) 0 ≡ slice_get (shared_in sends us (uses_seen (drop (i + 1) xs))) 0
-  shared_later e = ap (λ ys. slice_get ys 0) here ∙ ap (λ b. slice_get (only_if b (use_of x).place ++ shared_in sends us (uses_seen (drop (i + 1) xs))) 0) e
+      → first_of (shared_in sends us (uses_seen (drop i xs))) ≡ first_of (shared_in sends us (uses_seen (drop (i + 1) xs)))
+  shared_later e = ap first_of here ∙ ap (λ b. first_of (only_if b (use_of x).place ++ shared_in sends us (uses_seen (drop (i + 1) xs)))) e
 
 -- the uses of one process after another, from number i on
 module _ (sends : Bool) (ps : List (Vec code.Use)) (i : ℕ) (p : Vec code.Use) (h : i < length ps) (is : p ≡ get_or ps i p) where
@@ -114,18 +113,18 @@ module _ (sends : Bool) (ps : List (Vec code.Use)) (i : ℕ) (p : Vec code.Use) 
       ∙ ap (λ (q : Vec code.Use). shared_in sends (all_uses (take i ps)) (uses_seen q.items)
       ++ along (shared_in sends) (all_uses (take (i + 1) ps)) (all_uses (drop (i + 1) ps))) (sym is)
 
-  pub process_here : (place : Place) → slice_get (shared_in sends (all_uses (take i ps)) (uses_seen p.items)) 0 ≡ Some place
-      → slice_get (along (shared_in sends) (all_uses (take i ps)) (all_uses (drop i ps))) 0 ≡ Some place
-  process_here place e = ap (λ xs. slice_get xs 0) next
-      ∙ first-some (shared_in sends (all_uses (take i ps)) (uses_seen p.items))
+  pub process_here : (place : Place) → first_of (shared_in sends (all_uses (take i ps)) (uses_seen p.items)) ≡ Err place
+      → first_of (along (shared_in sends) (all_uses (take i ps)) (all_uses (drop i ps))) ≡ Err place
+  process_here place e = ap first_of next
+      ∙ first-here (shared_in sends (all_uses (take i ps)) (uses_seen p.items))
       (along (shared_in sends) (all_uses (take (i + 1) ps)) (all_uses (drop (i + 1) ps))) place e
 
-  pub process_later : slice_get (shared_in sends (all_uses (take i ps)) (uses_seen p.items)) 0 ≡ None
-      → slice_get (along (shared_in sends) (all_uses (take i ps)) (all_uses (drop i ps))) 0
-      ≡ slice_get (along (shared_in sends) (all_uses (take (i + 1) ps)) (all_uses (drop (i + 1) ps))) 0
-  process_later e = ap (λ xs. slice_get xs 0) next
-      ∙ first-none (shared_in sends (all_uses (take i ps)) (uses_seen p.items))
-      (along (shared_in sends) (all_uses (take (i + 1) ps)) (all_uses (drop (i + 1) ps))) e
+  pub process_later : first_of (shared_in sends (all_uses (take i ps)) (uses_seen p.items)) ≡ Ok tt
+      → along (shared_in sends) (all_uses (take i ps)) (all_uses (drop i ps))
+      ≡ along (shared_in sends) (all_uses (take (i + 1) ps)) (all_uses (drop (i + 1) ps))
+  process_later e = next
+      ∙ ap (λ xs. xs ++ along (shared_in sends) (all_uses (take (i + 1) ps)) (all_uses (drop (i + 1) ps)))
+      (none_found (shared_in sends (all_uses (take i ps)) (uses_seen p.items)) tt e)
 
   row_more : in_a_row (all_uses (take (i + 1) ps)) ≡ in_a_row (all_uses (take i ps)) ++ uses_seen p.items
   row_more =
@@ -145,12 +144,16 @@ module _ (look : List Use → List Place) (ps : List (Vec code.Use)) (i : ℕ) (
       ap (λ qs. flat_map look (all_uses qs)) (drop_more ps i p h)
       ∙ ap (λ (q : Vec code.Use). look (uses_seen q.items) ++ flat_map look (all_uses (drop (i + 1) ps))) (sym is)
 
-  pub each_here : (place : Place) → slice_get (look (uses_seen p.items)) 0 ≡ Some place
-      → slice_get (flat_map look (all_uses (drop i ps))) 0 ≡ Some place
-  each_here place e = ap (λ xs. slice_get xs 0) each_next ∙ first-some (look (uses_seen p.items)) (flat_map look (all_uses (drop (i + 1) ps))) place e
+  pub each_later : look (uses_seen p.items) ≡ [] → flat_map look (all_uses (drop i ps)) ≡ flat_map look (all_uses (drop (i + 1) ps))
+  each_later e = each_next ∙ ap (λ xs. xs ++ flat_map look (all_uses (drop (i + 1) ps))) e
 
-  pub each_later : slice_get (look (uses_seen p.items)) 0 ≡ None → flat_map look (all_uses (drop i ps)) ≡ flat_map look (all_uses (drop (i + 1) ps))
-  each_later e = each_next ∙ ap (λ xs. xs ++ flat_map look (all_uses (drop (i + 1) ps))) (none-found (look (uses_seen p.items)) e)
+  -- a refusal of what is found in this one is the first of what is found from it on
+  pub each_first : {E : Type 0} (told : E → Option E) (stop : Place → E) (s : E) → IsFirst told (map stop (look (uses_seen p.items))) s
+      → IsFirst told (map stop (flat_map look (all_uses (drop i ps)))) s
+  each_first told stop s h =
+      subst (λ xs. IsFirst told (map stop xs) s) (sym each_next)
+      (subst (λ xs. IsFirst told xs s) (sym (map-append stop (look (uses_seen p.items)) (flat_map look (all_uses (drop (i + 1) ps)))))
+      (first_on told (map stop (look (uses_seen p.items))) (map stop (flat_map look (all_uses (drop (i + 1) ps)))) s h))
 
 -- the uses in the parts of each process are those of each process
 pub uses_alike : (ps : List FlatProcess) → map (flat_map uses_in) (map parts_in ps) ≡ map uses_of ps

@@ -1,5 +1,10 @@
 -- What is looked for in each form of an expression and a condition.
-use Rattle.std.proofs.Common.{rules, ◌≡◌, Bool, false, ◌&&◌, ◌||◌, List, [], ◌∷◌, ◌++◌}
+use Rattle.std.proofs.Common.{rules, ◌≡◌, ◌⊎◌, inl, inr, ap, ◌∙◌, flat_map, Bool, false, ◌&&◌, ◌||◌, List, [], ◌∷◌, ◌++◌}
+use Rattle.std.proofs.lemmas.List.{append-nil}
+use Rattle.hc_frac.specs.declared.place.Place.{Place}
+use Rattle.hc_modules.specs.Found.{first_of}
+use Rattle.hc_modules.proofs.Firsts.{first_then, first_of-append}
+use Rattle.hc_finds.proofs.First.{first-of}
 use Rattle.hc_ast.specs.declared.expr.Op.{Op}
 use Rattle.hc_ast.specs.declared.expr.Comparison.{Comparison}
 use Rattle.hc_ast.specs.declared.expr.ExprKind as kinds
@@ -59,5 +64,22 @@ module _ (x : CondTree) where
   module _ (y z : CondTree) (is : x.kind ≡ test.Or y z) where
     pub sides-or : sides x ≡ sides y ++ sides z
     sides-or = search (rules, cond_kinds.the_lemmas)
+
+-- what joins two conditions
+abbrev pub Joins : CondTree → CondTree → CondTree → Type 0
+Joins x y z = (x.kind ≡ test.And y z) ⊎ (x.kind ≡ test.Or y z)
+
+-- what is found first in the sides of a condition
+module _ (look : ExprTree → List Place) (x : CondTree) where
+  pub joined-first : (y z : CondTree) → Joins x y z
+      → first_of (flat_map look (sides x)) ≡ first_then (first_of (flat_map look (sides y))) (first_of (flat_map look (sides z)))
+  joined-first y z (inl is) = first-of look (sides x) (sides y) (sides z) (sides-and x y z is)
+  joined-first y z (inr is) = first-of look (sides x) (sides y) (sides z) (sides-or x y z is)
+
+  pub compared-first : (how : Comparison) (a b : ExprTree) → x.kind ≡ plain.Compare how a b
+      → first_of (flat_map look (sides x)) ≡ first_then (first_of (look a)) (first_of (look b))
+  compared-first how a b is =
+      ap (λ es. first_of (flat_map look es)) (sides-compare x how a b is) ∙ first_of-append (look a) (look b ++ [])
+      ∙ ap (λ ps. first_then (first_of (look a)) (first_of ps)) (append-nil (look b))
 
 pub ruleset forms = (names-neg, names-binary, not_literal-neg, not_literal-binary, zero-neg, zero-binary, moves-neg, moves-binary, products-binary, sides-compare, sides-not, sides-and, sides-or)

@@ -6,16 +6,16 @@ use Rattle.std.proofs.lemmas.List.{append-nil}
 use Rattle.hc_ast.specs.Bare.{Word}
 use Rattle.hc_modules.specs.declared.flat.FlatProcess.{FlatProcess}
 use Rattle.hc_modules.specs.Finds.{only_if}
+use Rattle.hc_modules.specs.Found.{IsFirst}
+use Rattle.hc_modules.proofs.Firsts.{first_on}
 use Rattle.hc_finds.specs.declared.stop.What.TheVariants as what
 use Rattle.hc_finds.specs.declared.stop.CheckStop.{CheckStop}
-use Rattle.hc_finds.specs.declared.stop.CheckStop.TheVariants as stop
 use Rattle.hc_finds.specs.declared.stop.CheckStop.TheVariants.{TooMany}
-use Rattle.hc_finds.specs.First.{IsFirst}
+use Rattle.hc_finds.specs.First.{told}
 use Rattle.hc_finds.specs.Names.{first_occurrences}
 use Rattle.hc_finds.specs.Parts.{Part}
 use Rattle.hc_finds.specs.Limits.{place_of, channels_in, variables_in, guards_beyond, channels_beyond, variables_beyond, nodes_beyond, beyond_at, beyond_along, limited_parts, channels_named, beyond_limits}
 use Rattle.hc_finds.specs.Tally.{channels_over, variables_over, over_at, over_along}
-use Rattle.hc_finds.proofs.First.{first-some}
 use Rattle.hc_finds.proofs.Noted.{noted, noted-append, first-more}
 
 flat_alike : {X Y : Type 0} (f g : X → List Y) → ((x : X) → f x ≡ g x) → (xs : List X) → flat_map f xs ≡ flat_map g xs
@@ -43,20 +43,6 @@ along_same cs vs (x ∷ xs) =
     ap₂ (λ us ws. us ++ ws) (at_same cs vs x) (along_same (cs ++ channels_in x) (vs ++ variables_in x) xs)
     ∙ ap₂ (λ us ws. over_at (noted [] cs) (noted [] vs) x ++ over_along us ws xs)
     (noted-append [] cs (channels_in x)) (noted-append [] vs (variables_in x))
-
--- what is first in a list is first with others behind it
-pub first-stop : (xs ys : List CheckStop) (s : CheckStop) → IsFirst xs s → IsFirst (xs ++ ys) s
-first-stop xs ys stop.Memory h = tt
-first-stop xs ys (stop.TooMany w p) h = first-some xs ys _ h
-first-stop xs ys (stop.DivisorNotLiteral p) h = first-some xs ys _ h
-first-stop xs ys (stop.ZeroDivisor p) h = first-some xs ys _ h
-first-stop xs ys (stop.RepeatedRate p) h = first-some xs ys _ h
-first-stop xs ys (stop.RateEvolves p) h = first-some xs ys _ h
-first-stop xs ys (stop.NotAffine p) h = first-some xs ys _ h
-first-stop xs ys (stop.RepeatedGuard p) h = first-some xs ys _ h
-first-stop xs ys (stop.SelfChannel p) h = first-some xs ys _ h
-first-stop xs ys (stop.TwoSenders p) h = first-some xs ys _ h
-first-stop xs ys (stop.TwoReceivers p) h = first-some xs ys _ h
 
 -- the channels that the processes before number i name
 abbrev pub named_before : List FlatProcess → ℕ → List Word
@@ -90,10 +76,10 @@ module _ (ps : List FlatProcess) (i : ℕ) (d : FlatProcess) (h : i < length ps)
       ∙ ap (λ cs. over_along cs [] (limited_parts (get_or ps i d)) ++ beyond_limits (named_before ps (i + 1)) (drop (i + 1) ps)) (sym e)
 
   pub stop-found : (s : CheckStop) → beyond_limits [] ps ≡ beyond_limits (named_before ps i) (drop i ps)
-      → IsFirst (over_along names [] (limited_parts (get_or ps i d))) s → IsFirst (beyond_limits [] ps) s
+      → IsFirst told (over_along names [] (limited_parts (get_or ps i d))) s → IsFirst told (beyond_limits [] ps) s
   stop-found s so_far first =
-      subst (λ (xs : List CheckStop). IsFirst xs s) (sym (limits-now so_far))
-      (first-stop (over_along names [] (limited_parts (get_or ps i d))) (beyond_limits (named_before ps (i + 1)) (drop (i + 1) ps)) s first)
+      subst (λ (xs : List CheckStop). IsFirst told xs s) (sym (limits-now so_far))
+      (first_on told (over_along names [] (limited_parts (get_or ps i d))) (beyond_limits (named_before ps (i + 1)) (drop (i + 1) ps)) s first)
 
   pub limits-later : beyond_limits [] ps ≡ beyond_limits (named_before ps i) (drop i ps)
       → over_along names [] (limited_parts (get_or ps i d)) ≡ [] → beyond_limits [] ps ≡ beyond_limits (named_before ps (i + 1)) (drop (i + 1) ps)

@@ -1,5 +1,6 @@
 -- Where an expanded source is refused: all that is found, phase after phase.
-use Rattle.std.specs.Prelude.{true, false, List, [], ◌++◌, map, flat_map}
+use Rattle.std.specs.Prelude.{Bool, true, false, List, [], ◌++◌, map, flat_map}
+use Rattle.hc_frac.specs.declared.place.Place.{Place}
 use Rattle.hc_modules.specs.declared.flat.FlatProcess.{FlatProcess}
 use Rattle.hc_finds.specs.declared.stop.CheckStop.{CheckStop}
 use Rattle.hc_finds.specs.declared.stop.CheckStop.TheVariants as stop
@@ -14,6 +15,11 @@ parts_in p = parts_of false p.body
 
 abbrev pub all_parts : List FlatProcess → List Part
 all_parts ps = flat_map parts_in ps
+
+-- how a second sender, or receiver, is refused
+abbrev pub second_end : Bool → Place → CheckStop
+second_end true p = stop.TwoSenders p
+second_end false p = stop.TwoReceivers p
 
 -- what is found at the ends of channels, where the processes use them so
 abbrev pub bad_ends : List (List Use) → List CheckStop

@@ -9,10 +9,11 @@ ghost use Rattle.hc_finds.specs.declared.stop.What.TheVariants as what;
 ghost use Rattle.hc_finds.specs.declared.stop.CheckStop.TheVariants.{TooMany};
 ghost use Rattle.hc_finds.specs.Limits as spec;
 ghost use Rattle.hc_finds.specs.Seen.{part_of, seen};
-ghost use Rattle.hc_finds.specs.First.{IsFirst};
+ghost use Rattle.hc_finds.specs.First.{told};
+ghost use Rattle.hc_modules.specs.Found.{first_of, IsFirst};
 ghost use Rattle.hc_finds.specs.Tally as tally;
 
-use crate::exprs::only_if;
+use crate::exprs::refused_if;
 use crate::names::{note, note_variables};
 use crate::parts::Part;
 use crate::stop::{CheckStop, What};
@@ -22,39 +23,39 @@ use hc_limits::{MOST_CHANNELS, MOST_GUARDS, MOST_NODES, MOST_VARIABLES};
 use hc_modules::{cond_nodes_of, nodes_of};
 use indexmap::IndexSet;
 
-/// The root of an expression with too many nodes.
-fn long_expr(expr: &ExprTree) -> Option<Place>
-    ensures { result ≡ slice_get (only_if (nat_lt most_nodes (size.nodes expr.now)) expr.now.place) 0 }
+/// An error is the root of the expression, where it has too many nodes.
+fn short_expr(expr: &ExprTree) -> Result<(), Place>
+    ensures { result ≡ first_of (only_if (nat_lt most_nodes (size.nodes expr.now)) expr.now.place) }
 {
-    only_if(nodes_of(expr) > MOST_NODES, expr.place)
+    refused_if(nodes_of(expr) > MOST_NODES, expr.place)
 }
 
-/// The root of a condition with too many nodes.
-fn long_cond(cond: &CondTree) -> Option<Place>
-    ensures { result ≡ slice_get (only_if (nat_lt most_nodes (size.cond_nodes cond.now)) cond.now.place) 0 }
+/// An error is the root of the condition, where it has too many nodes.
+fn short_cond(cond: &CondTree) -> Result<(), Place>
+    ensures { result ≡ first_of (only_if (nat_lt most_nodes (size.cond_nodes cond.now)) cond.now.place) }
 {
-    only_if(cond_nodes_of(cond) > MOST_NODES, cond.place)
+    refused_if(cond_nodes_of(cond) > MOST_NODES, cond.place)
 }
 
-fn long_sent(io: &IoTree) -> Option<Place>
-    ensures { result ≡ slice_get (flat_map (λ o. only_if (nat_lt most_nodes o.size) o.place) (of_io io.now)) 0 }
+fn short_sent(io: &IoTree) -> Result<(), Place>
+    ensures { result ≡ first_of (flat_map (λ o. only_if (nat_lt most_nodes o.size) o.place) (of_io io.now)) }
 {
     match io {
-        IoTree::Send { channel: _, value } => long_expr(value),
-        IoTree::Receive { .. } => None,
+        IoTree::Send { channel: _, value } => short_expr(value),
+        IoTree::Receive { .. } => Ok(()),
     }
 }
 
-/// The root of the outermost expression or condition of a part, where it has too many nodes.
-fn long_root(part: Part<'_>) -> Option<Place>
-    ensures { result ≡ slice_get (spec.nodes_beyond (part_of part.entry)) 0 }
+/// An error is the root of the outermost expression or condition of a part, where it has too many nodes.
+fn short_root(part: Part<'_>) -> Result<(), Place>
+    ensures { result ≡ first_of (spec.nodes_beyond (part_of part.entry)) }
 {
     match part {
-        Part::Assign { value, .. } | Part::Compute { value, .. } => long_expr(value),
-        Part::Test { test, .. } => long_cond(test),
-        Part::Communicate { io, .. } | Part::Guard { io, .. } => long_sent(io),
-        Part::Rate { rate, .. } => long_expr(&rate.value),
-        Part::Domain { domain, .. } => long_cond(domain),
+        Part::Assign { value, .. } | Part::Compute { value, .. } => short_expr(value),
+        Part::Test { test, .. } => short_cond(test),
+        Part::Communicate { io, .. } | Part::Guard { io, .. } => short_sent(io),
+        Part::Rate { rate, .. } => short_expr(&rate.value),
+        Part::Domain { domain, .. } => short_cond(domain),
     }
 }
 
@@ -94,7 +95,7 @@ fn too_many(what: What, place: Place) -> CheckStop
 /// A branch beyond the limit of guards is refused.
 fn limit_guards(part: Part<'_>) -> Result<(), CheckStop>
     ensures ok { OnOk result (spec.guards_beyond (part_of part.entry) ≡ []) }
-    ensures stop { IfErr result (IsFirst (map (TooMany what.Guards) (spec.guards_beyond (part_of part.entry)))) }
+    ensures stop { IfErr result (IsFirst told (map (TooMany what.Guards) (spec.guards_beyond (part_of part.entry)))) }
 {
     match part {
         Part::Guard { earlier, place, .. } => {
@@ -110,11 +111,11 @@ fn limit_guards(part: Part<'_>) -> Result<(), CheckStop>
 /// An outermost expression or condition with too many nodes is refused.
 fn limit_nodes(part: Part<'_>) -> Result<(), CheckStop>
     ensures ok { OnOk result (spec.nodes_beyond (part_of part.entry) ≡ []) }
-    ensures stop { IfErr result (IsFirst (map (TooMany what.Nodes) (spec.nodes_beyond (part_of part.entry)))) }
+    ensures stop { IfErr result (IsFirst told (map (TooMany what.Nodes) (spec.nodes_beyond (part_of part.entry)))) }
 {
-    match long_root(part) {
-        Some(place) => Err(too_many(What::Nodes, place)),
-        None => Ok(()),
+    match short_root(part) {
+        Err(place) => Err(too_many(What::Nodes, place)),
+        Ok(()) => Ok(()),
     }
 }
 
@@ -133,7 +134,7 @@ impl NamesSoFar {
         ensures ok { OnOk result (tally.channels_over self.old.channels.keys (part_of part.entry) ≡ []) }
         ensures noted { OnOk result (self.new.channels.keys ≡ tally.with_names self.old.channels.keys (spec.channels_in (part_of part.entry))) }
         ensures others { self.new.variables ≡ self.old.variables }
-        ensures stop { IfErr result (IsFirst (map (TooMany what.Channels) (tally.channels_over self.old.channels.keys (part_of part.entry)))) }
+        ensures stop { IfErr result (IsFirst told (map (TooMany what.Channels) (tally.channels_over self.old.channels.keys (part_of part.entry)))) }
     {
         let Some(channel) = channel_of(part) else {
             return Ok(());
@@ -150,7 +151,7 @@ impl NamesSoFar {
         ensures ok { OnOk result (tally.variables_over self.old.variables.keys (part_of part.entry) ≡ []) }
         ensures noted { OnOk result (self.new.variables.keys ≡ tally.with_names self.old.variables.keys (spec.variables_in (part_of part.entry))) }
         ensures others { self.new.channels ≡ self.old.channels }
-        ensures stop { IfErr result (IsFirst (map (TooMany what.Variables) (tally.variables_over self.old.variables.keys (part_of part.entry)))) }
+        ensures stop { IfErr result (IsFirst told (map (TooMany what.Variables) (tally.variables_over self.old.variables.keys (part_of part.entry)))) }
     {
         note_variables(&mut self.variables, part)?;
         if self.variables.len() > MOST_VARIABLES {
@@ -164,7 +165,7 @@ impl NamesSoFar {
         ensures ok { OnOk result (tally.over_at self.old.channels.keys self.old.variables.keys (part_of part.entry) ≡ []) }
         ensures channels { OnOk result (self.new.channels.keys ≡ tally.with_names self.old.channels.keys (spec.channels_in (part_of part.entry))) }
         ensures variables { OnOk result (self.new.variables.keys ≡ tally.with_names self.old.variables.keys (spec.variables_in (part_of part.entry))) }
-        ensures stop { IfErr result (IsFirst (tally.over_at self.old.channels.keys self.old.variables.keys (part_of part.entry))) }
+        ensures stop { IfErr result (IsFirst told (tally.over_at self.old.channels.keys self.old.variables.keys (part_of part.entry))) }
     {
         limit_guards(part)?;
         self.limit_channels(part)?;
@@ -177,7 +178,7 @@ impl NamesSoFar {
         ensures ok { OnOk result (tally.over_along self.old.channels.keys self.old.variables.keys (seen parts.now) ≡ []) }
         ensures channels { OnOk result (self.new.channels.keys ≡ tally.with_names self.old.channels.keys (flat_map spec.channels_in (seen parts.now))) }
         ensures variables { OnOk result (self.new.variables.keys ≡ tally.with_names self.old.variables.keys (flat_map spec.variables_in (seen parts.now))) }
-        ensures stop { IfErr result (IsFirst (tally.over_along self.old.channels.keys self.old.variables.keys (seen parts.now))) }
+        ensures stop { IfErr result (IsFirst told (tally.over_along self.old.channels.keys self.old.variables.keys (seen parts.now))) }
     {
         for part in parts {
             self.limit(*part)?;

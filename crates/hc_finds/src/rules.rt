@@ -1,16 +1,16 @@
 //! The rules on the parts of a process.
 
-ghost use Rattle.std.specs.Prelude.{◌≡◌, false, ◌++◌, map, slice_get, flat_map, option_map};
-ghost use Rattle.hc_finds.specs.Exprs.{divisors_not_literal, zero_divisors, is_among};
+ghost use Rattle.std.specs.Prelude.{◌≡◌, map};
 ghost use Rattle.hc_finds.specs.Looks as look;
 ghost use Rattle.hc_finds.specs.Rules as spec;
 ghost use Rattle.hc_finds.specs.Seen.{part_of, seen, exprs_of};
 ghost use Rattle.std.specs.List.{list_any};
 ghost use Rattle.hc_finds.specs.Seen.{io_in};
+ghost use Rattle.hc_modules.specs.Found.{first_of};
 
 use crate::exprs::{
-    evolving_name, first_not_literal, first_not_literal_in, first_zero, first_zero_in, is_evolving,
-    moves_of, only_if, product_in,
+    affine_in, is_evolving, literal_divisors, literal_divisors_in, moves_of, no_evolving_name,
+    no_zero_divisor, no_zero_divisor_in, refused_if,
 };
 use crate::parts::Part;
 use crate::stop::CheckStop;
@@ -62,43 +62,43 @@ pub(crate) fn contents<'a>(part: Part<'a>) -> Exprs<'a>
     }
 }
 
-/// A divisor that is no number.
-fn divisor_not_literal(part: Part<'_>) -> Option<Place>
-    ensures { result ≡ slice_get (look.divisor_not_literal (part_of part.entry)) 0 }
+/// An error is the first divisor that is no number.
+fn divisor_not_literal(part: Part<'_>) -> Result<(), Place>
+    ensures { result ≡ first_of (look.divisor_not_literal (part_of part.entry)) }
 {
     match contents(part) {
-        Exprs::None => None,
-        Exprs::One(expr) => first_not_literal(false, expr),
-        Exprs::Sides(cond) => first_not_literal_in(cond),
+        Exprs::None => Ok(()),
+        Exprs::One(expr) => literal_divisors(false, expr),
+        Exprs::Sides(cond) => literal_divisors_in(cond),
     }
 }
 
-/// A divisor that is 0.
-fn zero_divisor(part: Part<'_>) -> Option<Place>
-    ensures { result ≡ slice_get (look.zero_divisor (part_of part.entry)) 0 }
+/// An error is the first divisor that is 0.
+fn zero_divisor(part: Part<'_>) -> Result<(), Place>
+    ensures { result ≡ first_of (look.zero_divisor (part_of part.entry)) }
 {
     match contents(part) {
-        Exprs::None => None,
-        Exprs::One(expr) => first_zero(false, expr),
-        Exprs::Sides(cond) => first_zero_in(cond),
+        Exprs::None => Ok(()),
+        Exprs::One(expr) => no_zero_divisor(false, expr),
+        Exprs::Sides(cond) => no_zero_divisor_in(cond),
     }
 }
 
-/// A product with evolving variables on both sides, in a domain or in a value that a guard sends.
-fn not_affine(part: Part<'_>) -> Option<Place>
-    ensures { result ≡ slice_get (look.not_affine (part_of part.entry)) 0 }
+/// An error is the first product with evolving variables on both sides, in a domain or in a value that a guard sends.
+fn not_affine(part: Part<'_>) -> Result<(), Place>
+    ensures { result ≡ first_of (look.not_affine (part_of part.entry)) }
 {
     match part {
         Part::Domain {
             rates,
             place: _,
             domain,
-        } => product_in(rates, domain),
+        } => affine_in(rates, domain),
         Part::Guard { rates, io, .. } => match io {
-            IoTree::Send { channel: _, value } => moves_of(rates, value).product,
-            IoTree::Receive { .. } => None,
+            IoTree::Send { channel: _, value } => moves_of(rates, value).affine,
+            IoTree::Receive { .. } => Ok(()),
         },
-        _ => None,
+        _ => Ok(()),
     }
 }
 
@@ -126,9 +126,9 @@ fn is_guarded(branches: &[BranchTree], io: &IoTree) -> bool
 }
 
 impl Rule {
-    /// Where a part breaks the rule first.
-    fn broken_in(self, part: Part<'_>) -> Option<Place>
-        ensures { result ≡ slice_get (spec.breaks self (part_of part.entry)) 0 }
+    /// An error is where a part breaks the rule first.
+    fn kept_in(self, part: Part<'_>) -> Result<(), Place>
+        ensures { result ≡ first_of (spec.breaks self (part_of part.entry)) }
     {
         match self {
             Rule::DivisorNotLiteral => divisor_not_literal(part),
@@ -154,45 +154,45 @@ impl Rule {
         }
     }
 
-    /// How the first of these parts is refused that breaks the rule.
-    pub(crate) fn broken(self, parts: &[Part<'_>]) -> Option<CheckStop>
-        ensures { result ≡ slice_get (spec.broken self (seen parts.now)) 0 }
+    /// An error is how the first of these parts is refused that breaks the rule.
+    pub(crate) fn kept(self, parts: &[Part<'_>]) -> Result<(), CheckStop>
+        ensures { result ≡ first_of (spec.broken self (seen parts.now)) }
     {
         for part in parts {
-            if let Some(place) = self.broken_in(*part) {
-                return Some(self.refusal(place));
+            if let Err(place) = self.kept_in(*part) {
+                return Err(self.refusal(place));
             }
         }
-        None
+        Ok(())
     }
 }
 
-/// A rate of a variable that has one before.
-fn repeated_rate(part: Part<'_>) -> Option<Place>
-    ensures { result ≡ slice_get (look.repeated_rate (part_of part.entry)) 0 }
+/// An error is a rate of a variable that has one before.
+fn repeated_rate(part: Part<'_>) -> Result<(), Place>
+    ensures { result ≡ first_of (look.repeated_rate (part_of part.entry)) }
 {
     match part {
-        Part::Rate { earlier, rate, .. } => only_if(
+        Part::Rate { earlier, rate, .. } => refused_if(
             is_evolving(earlier, &rate.variable),
             rate.place,
         ),
-        _ => None,
+        _ => Ok(()),
     }
 }
 
-/// An evolving variable in a rate of its evolution.
-fn rate_evolves(part: Part<'_>) -> Option<Place>
-    ensures { result ≡ slice_get (look.rate_evolves (part_of part.entry)) 0 }
+/// An error is the first evolving variable in a rate of its evolution.
+fn rate_evolves(part: Part<'_>) -> Result<(), Place>
+    ensures { result ≡ first_of (look.rate_evolves (part_of part.entry)) }
 {
     match part {
-        Part::Rate { all, rate, .. } => evolving_name(all, &rate.value),
-        _ => None,
+        Part::Rate { all, rate, .. } => no_evolving_name(all, &rate.value),
+        _ => Ok(()),
     }
 }
 
-/// A branch on a channel that an earlier branch has in the same direction.
-fn repeated_guard(part: Part<'_>) -> Option<Place>
-    ensures { result ≡ slice_get (look.repeated_guard (part_of part.entry)) 0 }
+/// An error is a branch on a channel that an earlier branch has in the same direction.
+fn repeated_guard(part: Part<'_>) -> Result<(), Place>
+    ensures { result ≡ first_of (look.repeated_guard (part_of part.entry)) }
 {
     match part {
         Part::Guard {
@@ -200,7 +200,7 @@ fn repeated_guard(part: Part<'_>) -> Option<Place>
             place,
             io,
             ..
-        } => only_if(is_guarded(earlier, io), place),
-        _ => None,
+        } => refused_if(is_guarded(earlier, io), place),
+        _ => Ok(()),
     }
 }

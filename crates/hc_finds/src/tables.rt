@@ -1,7 +1,8 @@
 //! The names of all processes against which nothing is found.
 
 ghost use Rattle.std.specs.Prelude.{◌≡◌, ◌≤◌, [], map, length, flat_map, All, OnOk, IfOk, IfErr};
-ghost use Rattle.hc_finds.specs.First.{IsFirst};
+ghost use Rattle.hc_modules.specs.Found.{IsFirst};
+ghost use Rattle.hc_finds.specs.First.{told};
 ghost use Rattle.hc_finds.specs.Limits as spec;
 ghost use Rattle.hc_finds.specs.Limits.{channels_of, variables_of};
 ghost use Rattle.hc_finds.specs.Refusals.{refusals};
@@ -9,7 +10,7 @@ ghost use Rattle.hc_finds.specs.Tally as tally;
 
 use crate::collect::{parts_of, parts_of_each, uses_of_each};
 use crate::limits::NamesSoFar;
-use crate::phases::{broken_rule, no_bad_end};
+use crate::phases::{no_bad_end, rules_kept};
 use crate::stop::CheckStop;
 use hc_frac::Name;
 use hc_list::List;
@@ -35,7 +36,7 @@ fn limit_process(
     ensures ok { IfOk result (λ n. tally.over_along channels.keys [] (spec.limited_parts process.now) ≡ []) }
     ensures channels { IfOk result (λ n. n.channels.keys ≡ tally.with_names channels.keys (spec.channels_named process.now)) }
     ensures variables { IfOk result (λ n. n.variables.keys ≡ variables_of process.now) }
-    ensures stop { IfErr result (IsFirst (tally.over_along channels.keys [] (spec.limited_parts process.now))) }
+    ensures stop { IfErr result (IsFirst told (tally.over_along channels.keys [] (spec.limited_parts process.now))) }
 {
     let parts = parts_of(alloc, true, process.body.as_slice())?;
     let mut named = NamesSoFar {
@@ -54,7 +55,7 @@ pub(crate) fn within_limits(
     ensures ok { IfOk result (λ l. spec.beyond_limits [] processes.now ≡ []) }
     ensures channels { IfOk result (λ l. l.channels.keys ≡ channels_of processes.now) }
     ensures variables { IfOk result (λ l. map (λ s. s.keys) l.variables ≡ map variables_of processes.now) }
-    ensures stop { IfErr result (IsFirst (spec.beyond_limits [] processes.now)) }
+    ensures stop { IfErr result (IsFirst told (spec.beyond_limits [] processes.now)) }
 {
     let mut tables = NameTables {
         channels: IndexSet::new(alloc),
@@ -81,13 +82,11 @@ pub fn unrefused(alloc: Global, processes: &[FlatProcess]) -> Result<NameTables,
     ensures ok { IfOk result (λ l. refusals processes.now ≡ []) }
     ensures channels { IfOk result (λ l. l.channels.keys ≡ channels_of processes.now) }
     ensures variables { IfOk result (λ l. map (λ s. s.keys) l.variables ≡ map variables_of processes.now) }
-    ensures stop { IfErr result (IsFirst (refusals processes.now)) }
+    ensures stop { IfErr result (IsFirst told (refusals processes.now)) }
 {
     let tables = within_limits(alloc, processes)?;
     let parts = parts_of_each(alloc, processes)?;
-    if let Some(stop) = broken_rule(parts.as_slice()) {
-        return Err(stop);
-    }
+    rules_kept(parts.as_slice())?;
     let uses = uses_of_each(alloc, parts.as_slice())?;
     no_bad_end(alloc, uses.as_slice())?;
     Ok(tables)

@@ -1,15 +1,20 @@
 //! The uses of channels.
 
-ghost use Rattle.std.specs.Prelude.{◌≡◌, ◌++◌, ◌∷◌, [], List, not, map, flat_map, slice_get, OnOk, IfOk};
+ghost use Rattle.std.specs.Prelude.{◌≡◌, ◌++◌, ◌∷◌, [], List, not, map, flat_map, OnOk, IfOk, IfErr};
 ghost use Rattle.std.specs.List.{list_any};
 ghost use Rattle.hc_modules.specs.Bindings.{same_word};
+ghost use Rattle.hc_modules.specs.Found.{first_of, IsFirst};
 ghost use Rattle.hc_modules.specs.Outermost.{in_a_row};
+ghost use Rattle.hc_finds.specs.First.{told};
+ghost use Rattle.hc_finds.specs.Refusals as refused;
+ghost use Rattle.hc_finds.specs.declared.stop.CheckStop.TheVariants.{SelfChannel};
 ghost use Rattle.hc_finds.specs.Uses as spec;
 ghost use Rattle.hc_finds.specs.Uses.{Use as Used};
 ghost use Rattle.hc_finds.specs.Seen.{part_of, seen, use_of, uses_seen, all_uses, channels_at, AreEnds};
 
 use crate::names::note;
 use crate::parts::Part;
+use crate::stop::CheckStop;
 use hc_ast::IoTree;
 use hc_frac::{Name, Place};
 use indexmap::IndexSet;
@@ -115,47 +120,60 @@ impl Ends {
     }
 }
 
-/// The first use of a channel that its process uses in the other direction before.
-pub(crate) fn self_channel(alloc: Global, uses: &[Use<'_>]) -> Result<Option<Place>, AllocError>
-    ensures { IfOk result (λ found. found ≡ slice_get (spec.self_channels (uses_seen uses.now)) 0) }
+/// A use of a channel that its process uses in the other direction before is refused.
+pub(crate) fn no_turn(alloc: Global, uses: &[Use<'_>]) -> Result<(), CheckStop>
+    ensures ok { OnOk result (spec.self_channels (uses_seen uses.now) ≡ []) }
+    ensures stop { IfErr result (IsFirst told (map SelfChannel (spec.self_channels (uses_seen uses.now)))) }
 {
     let mut ends = Ends::new(alloc);
     for end in uses {
         if ends.has(!end.sends, end.channel) {
-            return Ok(Some(end.place));
+            return Err(CheckStop::SelfChannel { place: end.place });
         }
         ends.add(*end)?;
     }
-    Ok(None)
+    Ok(())
 }
 
-/// The first send, or receive, on a channel that has this end before.
-fn shared_in(sends: bool, before: &Ends, uses: &[Use<'_>]) -> Option<Place>
-    ensures { (us : List (List Used)) → AreEnds before.now (in_a_row us) → result ≡ slice_get (spec.shared_in sends us (uses_seen uses.now)) 0 }
+/// An error is the first send, or receive, on a channel that has this end before.
+fn unshared(sends: bool, before: &Ends, uses: &[Use<'_>]) -> Result<(), Place>
+    ensures { (us : List (List Used)) → AreEnds before.now (in_a_row us) → result ≡ first_of (spec.shared_in sends us (uses_seen uses.now)) }
 {
     for end in uses {
         let shares = goes(sends, *end) & before.has(sends, end.channel);
         if shares {
-            return Some(end.place);
+            return Err(end.place);
         }
     }
-    None
+    Ok(())
 }
 
-/// The first send, or receive, on a channel on which an earlier process sends, or receives.
-pub(crate) fn shared_end(
+/// How a second sender, or receiver, is refused.
+fn second_end(sends: bool, place: Place) -> CheckStop
+    ensures { result ≡ refused.second_end sends place }
+{
+    if sends {
+        CheckStop::TwoSenders { place }
+    } else {
+        CheckStop::TwoReceivers { place }
+    }
+}
+
+/// A send, or receive, on a channel on which an earlier process sends, or receives, is refused.
+pub(crate) fn no_second_end(
     alloc: Global,
     sends: bool,
     processes: &[Vec<Use<'_>>],
-) -> Result<Option<Place>, AllocError>
-    ensures { IfOk result (λ found. found ≡ slice_get (spec.shared_ends sends (all_uses processes.now)) 0) }
+) -> Result<(), CheckStop>
+    ensures ok { OnOk result (spec.shared_ends sends (all_uses processes.now) ≡ []) }
+    ensures stop { IfErr result (IsFirst told (map (refused.second_end sends) (spec.shared_ends sends (all_uses processes.now)))) }
 {
     let mut before = Ends::new(alloc);
     for uses in processes {
-        if let Some(place) = shared_in(sends, &before, uses) {
-            return Ok(Some(place));
+        if let Err(place) = unshared(sends, &before, uses) {
+            return Err(second_end(sends, place));
         }
         before.add_all(uses)?;
     }
-    Ok(None)
+    Ok(())
 }

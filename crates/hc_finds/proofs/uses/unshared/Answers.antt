@@ -1,6 +1,6 @@
 use Rattle.std.proofs.Common.{arith, sym, ap₂, ◌∙◌, ◌&&◌}
 use Rattle.hc_finds.proofs.Ends.{shared_here, shared_later}
-use Rattle.hc_finds.proofs.uses.shared_in.Goals as goal
+use Rattle.hc_finds.proofs.uses.unshared.Goals as goal
 
 pub returns-then-shares : goal.returns-then-shares
 returns-then-shares c =

@@ -1,9 +1,9 @@
 use Rattle.std.proofs.Common.{rules}
 use Rattle.hc_finds.proofs.Along.{broken-here, broken-later}
-use Rattle.hc_finds.proofs.rules.Rule.broken.Goals as goal
+use Rattle.hc_finds.proofs.rules.Rule.kept.Goals as goal
 
-pub returns-in-Some : goal.returns-in-Some
-returns-in-Some c = search (rules, broken-here)
+pub returns-in-Err : goal.returns-in-Err
+returns-in-Err c = search (rules, broken-here)
 
 pub loop-part-preserved : goal.loop-part-preserved
 loop-part-preserved c = search (rules, broken-later)
