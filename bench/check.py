@@ -2,8 +2,10 @@
 """How the time of `hcsp check` grows with the text, over the worst shapes of a source.
 
 Prints a table: for each shape the seconds of processor, the least of twelve, at about 250,000, 500,000 and 1,048,576 bytes, and how many times the time
-grows where the size doubles. Build the program first (`./hcsp check < examples/tank.hcsp`).
+grows where the size doubles. With `--instructions` it counts the instructions of each run instead (by `valgrind`), which no other work on the machine
+disturbs. Build the program first (`./hcsp check < examples/tank.hcsp`).
 """
+import re
 import resource
 import subprocess
 import sys
@@ -105,13 +107,24 @@ def seconds(text):
         return best
 
 
+def instructions(text):
+    with tempfile.TemporaryDirectory() as folder:
+        source = Path(folder) / "source"
+        source.write_text(text)
+        tool = ["valgrind", "--tool=callgrind", f"--callgrind-out-file={folder}/counts"]
+        with source.open("rb") as given:
+            told = subprocess.run([*tool, PROGRAM, "check"], stdin=given, stdout=subprocess.DEVNULL, stderr=subprocess.PIPE, text=True, timeout=3600)
+        return int(re.search(r"Collected : (\d+)", told.stderr).group(1)) / 1e6
+
+
 def main():
+    measure, unit = (instructions, "M") if "--instructions" in sys.argv[1:] else (seconds, "s")
     print("| shape | " + " | ".join(f"{size:,} bytes" for size in SIZES) + " | growth |")
     print("|---|---|---|---|---|")
     for shape in [parameters, modules, writes, arguments, calls, channels, expressions]:
-        found = [seconds(shape(size)) for size in SIZES]
+        found = [measure(shape(size)) for size in SIZES]
         growth = ", ".join(f"{later / earlier:.1f}" for earlier, later in zip(found, found[1:]))
-        print(f"| {shape.__name__} | " + " | ".join(f"{each:.2f} s" for each in found) + f" | {growth} |")
+        print(f"| {shape.__name__} | " + " | ".join(f"{each:.3f} {unit}" for each in found) + f" | {growth} |")
         sys.stdout.flush()
 
 

@@ -1,7 +1,5 @@
 -- Each expanded source has a system, or is refused.
-use Rattle.std.proofs.Common.{◌≡◌, refl, ap, ◌∙◌, ◌⊎◌, inl, inr, List, [], ◌∷◌, map, slice_get, Some}
-use Rattle.hc_modules.specs.declared.flat.Flat.{Flat}
-use Rattle.hc_modules.specs.Refusals.{IsFlat}
+use Rattle.std.proofs.Common.{◌≡◌, refl, ap, ◌⊎◌, inl, inr, List, [], ◌∷◌, map, slice_get}
 use Rattle.hc_modules.proofs.WellFacts.{well}
 use Rattle.hc_term.specs.declared.system.System.{System}
 use Rattle.hc_finds.specs.declared.stop.CheckStop.{CheckStop}

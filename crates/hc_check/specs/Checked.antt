@@ -1,9 +1,10 @@
 -- What the system of an expanded source is, and where an expanded source has none.
-use Rattle.std.specs.Prelude.{◌≡◌, [], map, slice_get, Some, Result, Ok, Err}
+use Rattle.std.specs.Prelude.{◌≡◌, [], map, slice_get, Some, IfSome, Result}
+use Rattle.hc_grammar.specs.Exact as exact
 use Rattle.hc_modules.specs.declared.flat.Flat.{Flat}
 use Rattle.hc_term.specs.declared.system.System.{System}
 use Rattle.hc_finds.specs.declared.stop.CheckStop.{CheckStop}
-use Rattle.hc_finds.specs.declared.stop.CheckStop.TheVariants as stop
+use Rattle.hc_finds.specs.First.{told}
 use Rattle.hc_finds.specs.Limits.{channels_of}
 use Rattle.hc_finds.specs.Refusals.{refusals}
 use Rattle.hc_check.specs.Numbered.{process_over}
@@ -20,17 +21,8 @@ IsRefused flat s = slice_get (refusals flat.processes) 0 ≡ Some s
 
 -- the source is refused so; want of memory says nothing of it
 abbrev pub IsStop : Flat → CheckStop → Type 0
-IsStop flat stop.Memory = Unit {0}
-IsStop flat s = IsRefused flat s
+IsStop flat s = IfSome (told s) (IsRefused flat)
 
--- the answer is this system, or memory ran out
-abbrev pub IsSystemOrMemory : System → Result System CheckStop → Type 0
-IsSystemOrMemory sys (Ok found) = found ≡ sys
-IsSystemOrMemory sys (Err stop.Memory) = Unit {0}
-IsSystemOrMemory sys (Err _) = ⊥
-
--- the answer is this refusal, or memory ran out
-abbrev pub IsStopOrMemory : CheckStop → Result System CheckStop → Type 0
-IsStopOrMemory s (Ok found) = ⊥
-IsStopOrMemory s (Err stop.Memory) = Unit {0}
-IsStopOrMemory s (Err found) = found ≡ s
+-- the answer to an expanded source is its system, or its refusal, and both are answered unless memory runs out
+abbrev pub IsExact : Flat → Result System CheckStop → Type 0
+IsExact flat = exact.IsExact (λ s. s) told (IsChecked flat) (IsRefused flat)

@@ -1,13 +1,11 @@
 //! The checks, and the system that they let through.
 
-ghost use Rattle.std.specs.Prelude.{◌≡◌, ◌<◌, ◌^◌, [], length, map, IfOk, IfErr};
-ghost use Rattle.hc_finds.specs.declared.stop.CheckStop.{CheckStop as Stop};
+ghost use Rattle.std.specs.Prelude.{◌≡◌, ◌<◌, ◌^◌, [], length, map, IfOk};
 ghost use Rattle.hc_finds.specs.Limits.{channels_of, variables_of};
 ghost use Rattle.hc_finds.specs.Refusals.{refusals};
 ghost use Rattle.hc_modules.specs.Refusals.{IsFlat};
-ghost use Rattle.hc_term.specs.declared.system.System.{System as Numbered};
 ghost use Rattle.hc_check.specs.Numbered.{process_over};
-ghost use Rattle.hc_check.specs.Checked.{IsChecked, IsRefused, IsStop, IsSystemOrMemory, IsStopOrMemory};
+ghost use Rattle.hc_check.specs.Checked.{IsChecked, IsExact};
 
 use crate::numbering::{Numbering, number_stmts};
 use hc_finds::{CheckStop, NameTables, unrefused};
@@ -89,14 +87,7 @@ fn system_of(alloc: Global, flat: &Flat, tables: &NameTables) -> Result<System, 
 #[tactic(auto, using(crate::proofs::SameSystem::one_system))]
 pub fn check(alloc: Global, flat: &Flat) -> Result<System, CheckStop>
     requires { IsFlat flat.now }
-
-    // An answer is right.
-    ensures checked { IfOk result (IsChecked flat.now) }
-    ensures refusal { IfErr result (IsStop flat.now) }
-
-    // And what is right is the answer, unless memory runs out.
-    ensures every_system { (sys : Numbered) → IsChecked flat.now sys → IsSystemOrMemory sys result }
-    ensures every_refusal { (stop : Stop) → IsRefused flat.now stop → IsStopOrMemory stop result }
+    ensures { IsExact flat.now result }
 {
     let tables = unrefused(alloc, flat.processes.as_slice())?;
     Ok(system_of(alloc, flat, &tables)?)

@@ -15,7 +15,7 @@ use Rattle.hc_trace.specs.declared.reading.TraceStop.TheVariants.{Line, Memory}
 use Rattle.hc_trace.specs.Traces.{IsLine, IsEnd, IsTraceText, line_words, line_text, end_words, header_row, header_of}
 use Rattle.hc_trace.specs.Found.{Spells}
 use Rattle.hc_trace.specs.Reading.{Lacks, IsText, IsRefusedAt, newlines}
-use Rattle.hc_trace.specs.Stops.{IsStop, IsTraceOrMemory, IsRefusalOrMemory}
+use Rattle.hc_trace.specs.Stops.{IsStop, IsExact}
 use Rattle.hc_trace.proofs.OneTrace.{own_header, line_no_end, one_trace}
 use Rattle.hc_trace.proofs.Refusals.{one_refusal, texts_are_not_refused}
 use Rattle.hc_trace.proofs.RowsOfText.{row_of, spells_row, LineRow, EndRow, Follow, AreRows, text_of_rows, rows_append, rows_lack, not_empty, trace_rows, rows_trace, Compared, Same, Longer, Shorter, compared, header_plain, line_row_lacks, end_row_lacks}
@@ -258,12 +258,17 @@ refused_header bytes header rest is lack other =
 
 -- ---- what is right is the answer
 
-pub every_trace : (bytes : List ℕ) (t : Trace) (r : Result Trace TraceStop) → IsTraceText bytes t → IfOk r (IsTraceText bytes) → IfErr r (IsStop bytes) → IsTraceOrMemory t r
-every_trace bytes t (Ok u) text right wrong = one_trace bytes u t right text
-every_trace bytes t (Err (Line n)) text right wrong = texts_are_not_refused bytes t n text wrong
-every_trace bytes t (Err Memory) text right wrong = tt
-
-pub every_refusal : (bytes : List ℕ) (n : ℕ) (r : Result Trace TraceStop) → IsRefusedAt bytes n → IfOk r (IsTraceText bytes) → IfErr r (IsStop bytes) → IsRefusalOrMemory n r
-every_refusal bytes n (Ok u) refused right wrong = texts_are_not_refused bytes u n right refused
-every_refusal bytes n (Err (Line m)) refused right wrong = one_refusal bytes m n wrong refused
-every_refusal bytes n (Err Memory) refused right wrong = tt
+pub read_exactly : (bytes : List ℕ) (r : Result Trace TraceStop) → IfOk r (IsTraceText bytes) → IfErr r (IsStop bytes) → IsExact bytes r
+read_exactly bytes (Ok u) right wrong = record {
+  value_is = right;
+  refusal_is = tt;
+  every_value = λ t text. one_trace bytes u t right text;
+  every_refusal = λ n refused. texts_are_not_refused bytes u n right refused;
+}
+read_exactly bytes (Err (Line m)) right wrong = record {
+  value_is = tt;
+  refusal_is = wrong;
+  every_value = λ t text. absurd (texts_are_not_refused bytes t m text wrong);
+  every_refusal = λ n refused. one_refusal bytes m n wrong refused;
+}
+read_exactly bytes (Err Memory) right wrong = record { value_is = tt; refusal_is = tt; every_value = λ t text. refl; every_refusal = λ n refused. tt }

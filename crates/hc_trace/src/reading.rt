@@ -1,9 +1,7 @@
 //! Traces read from their texts.
-ghost use Rattle.std.specs.Prelude.{◌≡◌, ◌<◌, ◌^◌, ℕ, length, IfOk, IfErr};
+ghost use Rattle.std.specs.Prelude.{◌≡◌, ◌<◌, ◌^◌, length, IfOk, IfErr};
 ghost use Rattle.hc_trace.specs.Traces.{IsTraceText};
-ghost use Rattle.hc_trace.specs.Reading.{IsRefusedAt};
 ghost use Rattle.hc_trace.specs.Stops as spec;
-ghost use Rattle.hc_trace.specs.declared.traces.Trace.{Trace as Said};
 
 use crate::cut::cut;
 use crate::rows::{end_of, line_of, version_of};
@@ -34,14 +32,7 @@ impl From<AllocError> for TraceStop {
 /// stand there.
 pub fn read_trace(alloc: Global, bytes: &[u8]) -> Result<Trace, TraceStop>
     requires { length bytes.now < 2 ^ 32 }
-
-    // An answer is right.
-    ensures trace { IfOk result (IsTraceText bytes.now) }
-    ensures refusal { IfErr result (spec.IsStop bytes.now) }
-
-    // And what is right is the answer, unless memory runs out.
-    ensures every_trace { (t : Said) → IsTraceText bytes.now t → spec.IsTraceOrMemory t result }
-    ensures every_refusal { (n : ℕ) → IsRefusedAt bytes.now n → spec.IsRefusalOrMemory n result }
+    ensures { spec.IsExact bytes.now result }
 {
     read_lines(alloc, bytes)
 }
