@@ -5,6 +5,7 @@ use Rattle.hc_grammar.specs.Reader.{Reader}
 use Rattle.hc_token.specs.declared.kind.Kind.{Kind}
 use Rattle.hc_token.specs.declared.kind.Kind.TheVariants as k
 use Rattle.hc_token.specs.declared.token.Token.{Token}
+use Rattle.hc_token.specs.Lexemes.{kind_of}
 use Rattle.hc_ast.specs.declared.flaw.Flaw.{Flaw}
 use Rattle.hc_ast.specs.declared.flaw.Flaw.TheVariants as wrong
 use Rattle.hc_ast.specs.declared.role.Role.{Role}
@@ -64,7 +65,7 @@ beyond role n =
 abbrev pub reader : Reader Token Role Mark Counts Flaw
 reader = record {
   walk = record { on_token = λ role t n. after_token role n; on_mark = after_mark };
-  early = λ t n. unfit t.kind;
+  early = λ t n. unfit (kind_of t.lexeme);
   syntax = wrong.Syntax;
   judge = λ role t n. beyond role n;
 }

@@ -6,14 +6,13 @@ use Rattle.hc_ast.specs.declared.tree.ModuleDef.{ModuleDef}
 use Rattle.hc_ast.specs.declared.tree.Body.TheVariants as body
 use Rattle.hc_ast.specs.declared.tree.ProcessDef.{ProcessDef}
 use Rattle.hc_ast.specs.declared.tree.Tree.{Tree}
-use Rattle.hc_ast.specs.Leaves.{name_in}
 use Rattle.hc_ast.specs.Exprs.{expr_tree}
 use Rattle.hc_ast.specs.StmtTrees.{seq_tree}
 use Rattle.hc_ast.specs.Sources as g
 
 -- param = ( "ch" | "val" ) NAME
 abbrev pub param_tree : g.Param → Param
-param_tree (g.param word name) = record { place = word.0.place; kind = word.1; name = name_in name.0.content }
+param_tree (g.param word name) = record { place = word.0.place; kind = word.1; name = name.1 }
 
 -- { "," param }
 abbrev pub more_params_tree : g.MoreParams → List Param
@@ -28,7 +27,7 @@ params_tree (g.some x xs) = param_tree x ∷ more_params_tree xs
 -- module = "module" NAME "(" [ param { "," param } ] ")" ":" "begin" seq "end" "endmodule"
 abbrev pub module_tree : g.Module → ModuleDef
 module_tree (g.module_of word name left ps right colon begin_word ss end_word last_word) =
-    record { place = name.0.place; name = name_in name.0.content; params = params_tree ps; body = seq_tree ss }
+    record { place = name.0.place; name = name.1; params = params_tree ps; body = seq_tree ss }
 
 -- { "," expr }
 abbrev pub more_arguments_tree : g.MoreArguments → List ExprTree
@@ -43,12 +42,12 @@ arguments_tree (g.with x xs) = expr_tree x ∷ more_arguments_tree xs
 -- process = NAME "=" ( "(" seq ")" | NAME "(" [ expr { "," expr } ] ")" )
 abbrev pub process_tree : g.Process → ProcessDef
 process_tree (g.inline name sign left ss right) =
-    record { place = name.0.place; name = name_in name.0.content; body = body.Inline (seq_tree ss) }
+    record { place = name.0.place; name = name.1; body = body.Inline (seq_tree ss) }
 process_tree (g.call name sign callee left values right) =
     record {
       place = name.0.place;
-      name = name_in name.0.content;
-      body = body.Call callee.0.place (name_in callee.0.content) (arguments_tree values);
+      name = name.1;
+      body = body.Call callee.0.place callee.1 (arguments_tree values);
     }
 
 -- { "||" process }

@@ -8,15 +8,14 @@ use Rattle.hc_ast.specs.declared.stmt.StmtTree.{StmtTree}
 use Rattle.hc_ast.specs.declared.stmt.StmtKind.{StmtKind}
 use Rattle.hc_ast.specs.declared.stmt.StmtKind.TheVariants as s
 use Rattle.hc_ast.specs.declared.stmt.BranchTree.{BranchTree, roll-BranchTree}
-use Rattle.hc_ast.specs.Leaves.{name_in}
 use Rattle.hc_ast.specs.Exprs.{expr_tree}
 use Rattle.hc_ast.specs.Conds.{cond_tree}
 use Rattle.hc_ast.specs.Stmts as g
 
 -- io = NAME "!" expr | NAME "?" NAME
 abbrev pub io_tree : g.Io → IoTree
-io_tree (g.send channel sign value) = io_of.Send (name_in channel.0.content) (expr_tree value)
-io_tree (g.receive channel sign target) = io_of.Receive (name_in channel.0.content) (name_in target.0.content)
+io_tree (g.send channel sign value) = io_of.Send channel.1 (expr_tree value)
+io_tree (g.receive channel sign target) = io_of.Receive channel.1 target.1
 
 -- the first token of a communication
 abbrev pub io_place : g.Io → Place
@@ -26,7 +25,7 @@ io_place (g.receive channel sign target) = channel.0.place
 -- rate = RATE "=" expr
 abbrev pub rate_tree : g.Rate → RateTree
 rate_tree (g.rate variable sign value) =
-    record { place = variable.0.place; variable = name_in variable.0.content; value = expr_tree value }
+    record { place = variable.0.place; variable = variable.1; value = expr_tree value }
 
 -- { "," rate }
 abbrev pub rates_tree : g.Rates → List RateTree
@@ -54,7 +53,7 @@ abbrev mutual
   --      | "(" seq ")" ( "++" "(" seq ")" | "**" | "{" cond "}" "**" ) | choice | "<" rate { "," rate } "&" cond ">" [ "|>" choice ]
   pub stmt_tree : g.Stmt → StmtTree
   stmt_tree (g.skip word) = stmt_at word.0.place s.Skip
-  stmt_tree (g.assign target sign value) = stmt_at target.0.place (s.Assign (name_in target.0.content) (expr_tree value))
+  stmt_tree (g.assign target sign value) = stmt_at target.0.place (s.Assign target.1 (expr_tree value))
   stmt_tree (g.wait word left time right) = stmt_at word.0.place (s.Wait (expr_tree time))
   stmt_tree (g.log word left value right) = stmt_at word.0.place (s.Log (expr_tree value))
   stmt_tree (g.communicate i) = stmt_at (io_place i) (s.Io (io_tree i))

@@ -2,8 +2,12 @@
 use Rattle.std.proofs.Common.{◌≡◌, refl, ap, sym, ◌∙◌, List, [], ◌∷◌, ◌++◌, Some}
 use Rattle.std.proofs.lemmas.List.{append-nil}
 use Rattle.hc_grammar.specs.Texts.{Read, Did}
-use Rattle.hc_token.specs.declared.kind.Kind.{Kind}
+use Rattle.hc_token.specs.declared.fixed.Fixed.{Fixed}
+use Rattle.hc_token.specs.declared.fixed.Fixed.TheVariants as fix
 use Rattle.hc_token.specs.declared.kind.Kind.TheVariants as k
+use Rattle.hc_token.specs.declared.token.Lexeme.{Lexeme}
+use Rattle.hc_token.specs.declared.token.Lexeme.TheVariants as lex
+use Rattle.hc_token.specs.Lexemes.{kind_of}
 use Rattle.hc_ast.specs.declared.role.Role.TheVariants as r
 use Rattle.hc_ast.specs.declared.role.Mark.TheVariants as m
 use Rattle.hc_ast.specs.declared.expr.ExprTree.{ExprTree}
@@ -11,20 +15,24 @@ use Rattle.hc_ast.specs.declared.tree.Param.{Param}
 use Rattle.hc_ast.specs.declared.tree.ParamKind.{ParamKind}
 use Rattle.hc_ast.specs.declared.tree.ModuleDef.{ModuleDef}
 use Rattle.hc_ast.specs.declared.tree.ProcessDef.{ProcessDef}
-use Rattle.hc_ast.specs.Leaves.{Spelled, name_in}
+use Rattle.hc_ast.specs.Leaves.{Spelled}
 use Rattle.hc_ast.specs.Exprs as ex
 use Rattle.hc_ast.specs.StmtRoles as spell
 use Rattle.hc_ast.specs.Sources as so
 use Rattle.hc_ast.specs.SourceRoles as write
 use Rattle.hc_ast.specs.SourceTrees as tree
 use Rattle.hc_parse.specs.declared.values.Values.{Values}
-use Rattle.hc_parse.specs.Builder.{blank, keep, add_process, param_kind_of}
-use Rattle.hc_parse.proofs.Built.{W, built_expr}
+use Rattle.hc_parse.specs.Builder.{blank, push_fixed, push_name, add_process, param_kind_of}
+use Rattle.hc_parse.proofs.Built.{W, Sign, kept_name, kept_sign, built_expr}
 use Rattle.hc_parse.proofs.BuiltStmts.{built_seq, one_more}
 
-param_word : (kind : Kind) (what : ParamKind) → so.param_kind kind ≡ Some what → param_kind_of kind ≡ what
-param_word k.Ch what i = cc
-param_word k.Val what i = cc
+param_fixed : (one : Fixed) (what : ParamKind) → so.param_kind (k.Fixed one) ≡ Some what → param_kind_of one ≡ what
+param_fixed fix.Ch what i = cc
+param_fixed fix.Val what i = cc
+param_fixed _ what i = absurd (cc)
+
+param_word : (l : Lexeme) (what : ParamKind) → so.param_kind (kind_of l) ≡ Some what → Sign param_kind_of l what
+param_word (lex.Fixed one) what i = (one, refl, param_fixed one what i)
 param_word _ what i = absurd (cc)
 
 -- with these parameters, and with these arguments
@@ -37,8 +45,10 @@ with_arguments es v = record v { arguments = es }
 built_param : (x : so.Param) (ps : List Param) (w : Spelled) (v : Values)
     → W (write.param x w) (with_params ps v) ≡ W w (with_params (ps ++ tree.param_tree x ∷ []) v)
 built_param (so.param t x) ps w v =
-    ap (λ what. let a : Param = record { place = t.0.place; kind = what; name = name_in x.0.content } in W w (with_params (ps ++ a ∷ []) v))
-    (param_word t.0.kind t.1 t.2)
+    let is = param_word t.0.lexeme t.1 t.2 in
+    kept_sign param_kind_of t.0.lexeme t.1 is t.0.place (Read x.0 r.Keep ∷ Did m.Param ∷ w) (with_params ps v)
+    ∙ kept_name x (Did m.Param ∷ w) (push_fixed t.0.place is.0 (with_params ps v))
+    ∙ ap (λ what. let a : Param = record { place = t.0.place; kind = what; name = x.1 } in W w (with_params (ps ++ a ∷ []) v)) is.2
 
 built_more_params : (xs : so.MoreParams) (ps : List Param) (w : Spelled) (v : Values)
     → W (write.more_params xs w) (with_params ps v) ≡ W w (with_params (ps ++ tree.more_params_tree xs) v)
@@ -78,13 +88,19 @@ built_process : (x : so.Process) (w : Spelled) (v : Values)
     → GoesOn (write.process x w) w v v.modules (v.processes ++ tree.process_tree x ∷ [])
 built_process (so.inline x t a y b) w v = record {
   after = add_process (tree.process_tree (so.inline x t a y b)) v;
-  same = built_seq y (Read b.0 r.Plain ∷ Did m.Inline ∷ w) (keep x.0 v);
+  same = kept_name x (spell.seq y (Read b.0 r.Plain ∷ Did m.Inline ∷ w)) v
+      ∙ built_seq y (Read b.0 r.Plain ∷ Did m.Inline ∷ w) (push_name x.0.place x.1 v);
   has_modules = refl;
   has_processes = refl;
 }
 built_process (so.call x t y a es b) w v = record {
   after = add_process (tree.process_tree (so.call x t y a es b)) (with_arguments [] v);
-  same = built_arguments es (Read b.0 r.Plain ∷ Did m.Call ∷ w) (keep y.0 (keep x.0 v));
+  same =
+      let end = Read b.0 r.Plain ∷ Did m.Call ∷ w in
+      let called = Did m.Arguments ∷ write.arguments es end in
+      kept_name x (Read y.0 r.Keep ∷ called) v
+      ∙ kept_name y called (push_name x.0.place x.1 v)
+      ∙ built_arguments es end (push_name y.0.place y.1 (push_name x.0.place x.1 v));
   has_modules = refl;
   has_processes = refl;
 }
@@ -107,11 +123,12 @@ built_module : (x : so.Module) (w : Spelled) (v : Values)
     → GoesOn (write.module_of x w) w v (v.modules ++ tree.module_tree x ∷ []) v.processes
 built_module (so.module_of t x a ps b c d y f l) w v =
     let end = Read f.0 r.Plain ∷ Read l.0 r.Plain ∷ Did m.Module ∷ w in
-    let inside = with_params (tree.params_tree ps) (keep x.0 v) in
+    let named = push_name x.0.place x.1 v in
+    let inside = with_params (tree.params_tree ps) named in
+    let body = Read b.0 r.Plain ∷ Read c.0 r.Plain ∷ Read d.0 r.Plain ∷ spell.seq y end in
     record {
       after = record v { params = []; modules = v.modules ++ tree.module_tree (so.module_of t x a ps b c d y f l) ∷ [] };
-      same = built_params ps (Read b.0 r.Plain ∷ Read c.0 r.Plain ∷ Read d.0 r.Plain ∷ spell.seq y end) (keep x.0 v)
-          ∙ built_seq y end inside;
+      same = kept_name x (Did m.Params ∷ write.params ps body) v ∙ built_params ps body named ∙ built_seq y end inside;
       has_modules = refl;
       has_processes = refl;
     }

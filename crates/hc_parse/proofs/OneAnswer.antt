@@ -10,6 +10,7 @@ use Rattle.hc_grammar.proofs.Answered.{same_parts, not_both, same_value}
 use Rattle.hc_token.specs.declared.kind.Kind.{Kind}
 use Rattle.hc_token.specs.declared.kind.Kind.TheVariants as k
 use Rattle.hc_token.specs.declared.token.Token.{Token}
+use Rattle.hc_token.specs.Lexemes.{kind_of}
 use Rattle.hc_token.specs.Tokens.{AreEnded, tokens_of, first_place}
 use Rattle.hc_token.proofs.Ended.{tokens_end}
 use Rattle.hc_ast.specs.declared.flaw.Flaw.{Flaw}
@@ -31,7 +32,7 @@ not_end kind false e other = refl
 pub ended : (ts : List Token) → AreEnded ts → Ends (is_last language) ts
 ended [] e = e
 ended (t ∷ []) e = ap (same k.End) e
-ended (t ∷ u ∷ ts) e = (not_end t.kind (same k.End t.kind) refl e.0, ended (u ∷ ts) e.1)
+ended (t ∷ u ∷ ts) e = (not_end (kind_of t.lexeme) (same k.End (kind_of t.lexeme)) refl e.0, ended (u ∷ ts) e.1)
 
 -- what the machine makes of all tokens
 abbrev Answer : Type 0

@@ -1,9 +1,11 @@
 -- The tree that is built along a source, by parts that wait on stacks for the part that holds them.
-use Rattle.std.specs.Prelude.{List, [], ◌∷◌, ◌++◌, Some, None}
+use Rattle.std.specs.Prelude.{ℕ, List, [], ◌∷◌, ◌++◌, Some, None}
 use Rattle.hc_frac.specs.declared.place.Place.{Place}
 use Rattle.hc_grammar.specs.Reader.{Walk}
-use Rattle.hc_token.specs.declared.kind.Kind.{Kind}
-use Rattle.hc_token.specs.declared.kind.Kind.TheVariants as k
+use Rattle.hc_token.specs.declared.fixed.Fixed.{Fixed}
+use Rattle.hc_token.specs.declared.fixed.Fixed.TheVariants as fix
+use Rattle.hc_token.specs.declared.token.Lexeme.{Lexeme}
+use Rattle.hc_token.specs.declared.token.Lexeme.TheVariants as lex
 use Rattle.hc_token.specs.declared.token.Token.{Token}
 use Rattle.hc_ast.specs.declared.role.Role.{Role}
 use Rattle.hc_ast.specs.declared.role.Role.TheVariants as r
@@ -21,6 +23,7 @@ use Rattle.hc_ast.specs.declared.stmt.IoTree.{IoTree}
 use Rattle.hc_ast.specs.declared.stmt.IoTree.TheVariants as io_of
 use Rattle.hc_ast.specs.declared.stmt.RateTree.{RateTree}
 use Rattle.hc_ast.specs.declared.stmt.StmtTree.{StmtTree}
+use Rattle.hc_ast.specs.declared.stmt.StmtKind.{StmtKind}
 use Rattle.hc_ast.specs.declared.stmt.StmtKind.TheVariants as s
 use Rattle.hc_ast.specs.declared.stmt.BranchTree.{BranchTree}
 use Rattle.hc_ast.specs.declared.tree.Param.{Param}
@@ -30,7 +33,6 @@ use Rattle.hc_ast.specs.declared.tree.ModuleDef.{ModuleDef}
 use Rattle.hc_ast.specs.declared.tree.Body.TheVariants as body
 use Rattle.hc_ast.specs.declared.tree.ProcessDef.{ProcessDef}
 use Rattle.hc_ast.specs.declared.tree.Tree.{Tree}
-use Rattle.hc_ast.specs.Leaves.{name_in, number_in}
 use Rattle.hc_ast.specs.Exprs.{expr_at}
 use Rattle.hc_ast.specs.Conds.{cond_at}
 use Rattle.hc_ast.specs.StmtTrees.{stmt_at, branch_at}
@@ -45,7 +47,8 @@ blank = record {
   choices = [];
   rates = [];
   ios = [];
-  kept = [];
+  fixed = [];
+  names = [];
   params = [];
   arguments = [];
   modules = [];
@@ -58,8 +61,11 @@ with_top [] v f = v
 with_top (x ∷ xs) v f = f x xs
 
 -- each of these takes the top of a stack off
-abbrev pub take_kept : Values → (Token → Values → Values) → Values
-take_kept v f = with_top v.kept v (λ t ts. f t (record v { kept = ts }))
+abbrev pub take_fixed : Values → (Place × Fixed → Values → Values) → Values
+take_fixed v f = with_top v.fixed v (λ t ts. f t (record v { fixed = ts }))
+
+abbrev pub take_name : Values → (Place × List ℕ → Values → Values) → Values
+take_name v f = with_top v.names v (λ x xs. f x (record v { names = xs }))
 
 abbrev pub take_expr : Values → (ExprTree → Values → Values) → Values
 take_expr v f = with_top v.exprs v (λ x xs. f x (record v { exprs = xs }))
@@ -80,8 +86,11 @@ abbrev pub take_io : Values → (Place × IoTree → Values → Values) → Valu
 take_io v f = with_top v.ios v (λ x xs. f x (record v { ios = xs }))
 
 -- each of these puts a part where it waits
-abbrev pub keep : Token → Values → Values
-keep t v = record v { kept = t ∷ v.kept }
+abbrev pub push_fixed : Place → Fixed → Values → Values
+push_fixed p one v = record v { fixed = (p, one) ∷ v.fixed }
+
+abbrev pub push_name : Place → List ℕ → Values → Values
+push_name p w v = record v { names = (p, w) ∷ v.names }
 
 abbrev pub push_expr : ExprTree → Values → Values
 push_expr x v = record v { exprs = x ∷ v.exprs }
@@ -115,94 +124,102 @@ abbrev pub add_process : ProcessDef → Values → Values
 add_process x v = record v { processes = v.processes ++ x ∷ [] }
 
 -- what the sign of an expression, a comparison and the word of a parameter say
-abbrev pub op_of : Kind → Op
-op_of k.Plus = sign.Add
-op_of k.Minus = sign.Sub
-op_of k.Star = sign.Mul
+abbrev pub op_of : Fixed → Op
+op_of fix.Plus = sign.Add
+op_of fix.Minus = sign.Sub
+op_of fix.Star = sign.Mul
 op_of _ = sign.Div
 
-abbrev pub comparison_of : Kind → Comparison
-comparison_of k.Less = how.Less
-comparison_of k.LessEqual = how.AtMost
-comparison_of k.EqualEqual = how.Equal
-comparison_of k.NotEqual = how.NotEqual
-comparison_of k.GreaterEqual = how.AtLeast
+abbrev pub comparison_of : Fixed → Comparison
+comparison_of fix.Less = how.Less
+comparison_of fix.LessEqual = how.AtMost
+comparison_of fix.EqualEqual = how.Equal
+comparison_of fix.NotEqual = how.NotEqual
+comparison_of fix.GreaterEqual = how.AtLeast
 comparison_of _ = how.Greater
 
-abbrev pub param_kind_of : Kind → ParamKind
-param_kind_of k.Ch = p.Channel
+abbrev pub param_kind_of : Fixed → ParamKind
+param_kind_of fix.Ch = p.Channel
 param_kind_of _ = p.Value
 
 -- a number, a name, `true` or `false`
-abbrev pub leaf : Kind → Token → Values → Values
-leaf k.Number t v = push_expr (expr_at t.place (e.Number (number_in t.content))) v
-leaf k.Name t v = push_expr (expr_at t.place (e.Name (name_in t.content))) v
-leaf k.True t v = push_cond (cond_at t.place c.True) v
-leaf k.False t v = push_cond (cond_at t.place c.False) v
-leaf _ t v = v
+abbrev pub leaf : Lexeme → Place → Values → Values
+leaf (lex.Number d) p v = push_expr (expr_at p (e.Number d)) v
+leaf (lex.Name w) p v = push_expr (expr_at p (e.Name w)) v
+leaf (lex.Fixed fix.True) p v = push_cond (cond_at p c.True) v
+leaf (lex.Fixed fix.False) p v = push_cond (cond_at p c.False) v
+leaf _ p v = v
+
+-- a token that the tree still needs: the name that it says, or which keyword or sign it is
+abbrev pub keep : Lexeme → Place → Values → Values
+keep (lex.Fixed one) p v = push_fixed p one v
+keep (lex.Name w) p v = push_name p w v
+keep (lex.Rate w) p v = push_name p w v
+keep _ p v = v
 
 -- at a token in its role
 abbrev pub at_token : Role → Token → Values → Values
 at_token r.Plain t v = v
 at_token r.Open t v = v
 at_token r.Close t v = v
-at_token r.Leaf t v = leaf t.kind t v
-at_token _ t v = keep t v
+at_token r.Leaf t v = leaf t.lexeme t.place v
+at_token _ t v = keep t.lexeme t.place v
 
-abbrev pub a_statement : (Token → StmtTree) → Values → Values
-a_statement f v = take_kept v (λ t v. add_stmt (f t) v)
+-- a statement at the place of the keyword or sign that was kept
+abbrev pub a_statement : StmtKind → Values → Values
+a_statement x v = take_fixed v (λ t v. add_stmt (stmt_at t.0 x) v)
 
 -- at a mark
 abbrev pub at_mark : Mark → Values → Values
 at_mark m.Fresh v = v
-at_mark m.Negate v = take_expr v (λ x v. take_kept v (λ t v. push_expr (expr_at t.place (e.Neg x)) v))
+at_mark m.Negate v = take_expr v (λ x v. take_fixed v (λ t v. push_expr (expr_at t.0 (e.Neg x)) v))
 at_mark m.Binary v =
-    take_expr v (λ y v. take_expr v (λ x v. take_kept v (λ t v. push_expr (expr_at t.place (e.Binary (op_of t.kind) x y)) v)))
+    take_expr v (λ y v. take_expr v (λ x v. take_fixed v (λ t v. push_expr (expr_at t.0 (e.Binary (op_of t.1) x y)) v)))
 at_mark m.Compare v =
-    take_expr v (λ y v. take_expr v (λ x v. take_kept v (λ t v. push_cond (cond_at t.place (c.Compare (comparison_of t.kind) x y)) v)))
-at_mark m.Not v = take_cond v (λ x v. take_kept v (λ t v. push_cond (cond_at t.place (c.Not x)) v))
-at_mark m.And v = take_cond v (λ y v. take_cond v (λ x v. take_kept v (λ t v. push_cond (cond_at t.place (c.And x y)) v)))
-at_mark m.Or v = take_cond v (λ y v. take_cond v (λ x v. take_kept v (λ t v. push_cond (cond_at t.place (c.Or x y)) v)))
+    take_expr v (λ y v. take_expr v (λ x v. take_fixed v (λ t v. push_cond (cond_at t.0 (c.Compare (comparison_of t.1) x y)) v)))
+at_mark m.Not v = take_cond v (λ x v. take_fixed v (λ t v. push_cond (cond_at t.0 (c.Not x)) v))
+at_mark m.And v = take_cond v (λ y v. take_cond v (λ x v. take_fixed v (λ t v. push_cond (cond_at t.0 (c.And x y)) v)))
+at_mark m.Or v = take_cond v (λ y v. take_cond v (λ x v. take_fixed v (λ t v. push_cond (cond_at t.0 (c.Or x y)) v)))
 at_mark m.Body v = push_body [] v
-at_mark m.Skip v = a_statement (λ t. stmt_at t.place s.Skip) v
-at_mark m.Assign v = take_expr v (λ x v. a_statement (λ t. stmt_at t.place (s.Assign (name_in t.content) x)) v)
-at_mark m.Wait v = take_expr v (λ x v. a_statement (λ t. stmt_at t.place (s.Wait x)) v)
-at_mark m.Log v = take_expr v (λ x v. a_statement (λ t. stmt_at t.place (s.Log x)) v)
-at_mark m.Send v = take_expr v (λ x v. take_kept v (λ t v. push_io t.place (io_of.Send (name_in t.content) x) v))
+at_mark m.Skip v = a_statement s.Skip v
+at_mark m.Assign v = take_expr v (λ x v. take_name v (λ t v. add_stmt (stmt_at t.0 (s.Assign t.1 x)) v))
+at_mark m.Wait v = take_expr v (λ x v. a_statement (s.Wait x) v)
+at_mark m.Log v = take_expr v (λ x v. a_statement (s.Log x) v)
+at_mark m.Send v = take_expr v (λ x v. take_name v (λ t v. push_io t.0 (io_of.Send t.1 x) v))
 at_mark m.Receive v =
-    take_kept v (λ y v. take_kept v (λ t v. push_io t.place (io_of.Receive (name_in t.content) (name_in y.content)) v))
+    take_name v (λ y v. take_name v (λ t v. push_io t.0 (io_of.Receive t.1 y.1) v))
 at_mark m.Io v = take_io v (λ i v. add_stmt (stmt_at i.0 (s.Io i.1)) v)
-at_mark m.If v = take_body v (λ xs v. take_cond v (λ x v. a_statement (λ t. stmt_at t.place (s.If x xs None)) v))
+at_mark m.If v = take_body v (λ xs v. take_cond v (λ x v. a_statement (s.If x xs None) v))
 at_mark m.Else v =
-    take_body v (λ ys v. take_body v (λ xs v. take_cond v (λ x v. a_statement (λ t. stmt_at t.place (s.If x xs (Some ys))) v)))
-at_mark m.Pick v = take_body v (λ ys v. take_body v (λ xs v. a_statement (λ t. stmt_at t.place (s.Pick xs ys)) v))
-at_mark m.Forever v = take_body v (λ xs v. a_statement (λ t. stmt_at t.place (s.Forever xs)) v)
-at_mark m.Loop v = take_cond v (λ x v. take_body v (λ xs v. a_statement (λ t. stmt_at t.place (s.Loop x xs)) v))
+    take_body v (λ ys v. take_body v (λ xs v. take_cond v (λ x v. a_statement (s.If x xs (Some ys)) v)))
+at_mark m.Pick v = take_body v (λ ys v. take_body v (λ xs v. a_statement (s.Pick xs ys) v))
+at_mark m.Forever v = take_body v (λ xs v. a_statement (s.Forever xs) v)
+at_mark m.Loop v = take_cond v (λ x v. take_body v (λ xs v. a_statement (s.Loop x xs) v))
 at_mark m.Branches v = push_choice [] v
-at_mark m.Choice v = take_choice v (λ xs v. a_statement (λ t. stmt_at t.place (s.Choice xs)) v)
+at_mark m.Choice v = take_choice v (λ xs v. a_statement (s.Choice xs) v)
 at_mark m.Branch v = take_body v (λ xs v. take_io v (λ i v. add_branch (branch_at i.0 i.1 xs) v))
 at_mark m.Rates v = push_choice [] (push_rates [] v)
 at_mark m.Rate v =
-    take_expr v (λ x v. take_kept v (λ t v. add_rate (record { place = t.place; variable = name_in t.content; value = x }) v))
+    take_expr v (λ x v. take_name v (λ t v. add_rate (record { place = t.0; variable = t.1; value = x }) v))
 at_mark m.Evolve v =
-    take_choice v (λ bs v. take_rates v (λ rs v. take_cond v (λ x v. a_statement (λ t. stmt_at t.place (s.Evolve rs x bs)) v)))
+    take_choice v (λ bs v. take_rates v (λ rs v. take_cond v (λ x v. a_statement (s.Evolve rs x bs) v)))
 at_mark m.Params v = record v { params = [] }
 at_mark m.Param v =
-    take_kept v (λ x v. take_kept v (λ t v.
-    let a : Param = record { place = t.place; kind = param_kind_of t.kind; name = name_in x.content } in
+    take_name v (λ x v. take_fixed v (λ t v.
+    let a : Param = record { place = t.0; kind = param_kind_of t.1; name = x.1 } in
     record v { params = v.params ++ a ∷ [] }))
 at_mark m.Module v =
-    take_body v (λ xs v. take_kept v (λ t v.
-    let a : ModuleDef = record { place = t.place; name = name_in t.content; params = v.params; body = xs } in
+    take_body v (λ xs v. take_name v (λ t v.
+    let a : ModuleDef = record { place = t.0; name = t.1; params = v.params; body = xs } in
     record v { params = []; modules = v.modules ++ a ∷ [] }))
 at_mark m.Arguments v = record v { arguments = [] }
 at_mark m.Argument v = take_expr v (λ x v. record v { arguments = v.arguments ++ x ∷ [] })
 at_mark m.Inline v =
-    take_body v (λ xs v. take_kept v (λ t v.
-    add_process (record { place = t.place; name = name_in t.content; body = body.Inline xs }) v))
+    take_body v (λ xs v. take_name v (λ t v.
+    add_process (record { place = t.0; name = t.1; body = body.Inline xs }) v))
 at_mark m.Call v =
-    take_kept v (λ y v. take_kept v (λ t v.
-    add_process (record { place = t.place; name = name_in t.content; body = body.Call y.place (name_in y.content) v.arguments })
+    take_name v (λ y v. take_name v (λ t v.
+    add_process (record { place = t.0; name = t.1; body = body.Call y.0 y.1 v.arguments })
     (record v { arguments = [] })))
 
 abbrev pub builder : Walk Token Role Mark Values

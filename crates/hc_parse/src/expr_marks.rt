@@ -6,31 +6,31 @@ ghost use Rattle.hc_parse.specs.Builder as spec;
 use crate::values::Values;
 use hc_ast::{Comparison, CondKind, CondTree, ExprKind, ExprTree, Mark, Op};
 use hc_list::Boxed;
-use hc_token::Kind;
+use hc_token::Fixed;
 use std::alloc::{AllocError, Global};
 
 /// What the sign of an expression says.
-fn op_of(kind: Kind) -> Op
-    ensures { result ≡ spec.op_of kind }
+fn op_of(sign: Fixed) -> Op
+    ensures { result ≡ spec.op_of sign }
 {
-    match kind {
-        Kind::Plus => Op::Add,
-        Kind::Minus => Op::Sub,
-        Kind::Star => Op::Mul,
+    match sign {
+        Fixed::Plus => Op::Add,
+        Fixed::Minus => Op::Sub,
+        Fixed::Star => Op::Mul,
         _ => Op::Div,
     }
 }
 
 /// What the sign of a comparison says.
-fn comparison_of(kind: Kind) -> Comparison
-    ensures { result ≡ spec.comparison_of kind }
+fn comparison_of(sign: Fixed) -> Comparison
+    ensures { result ≡ spec.comparison_of sign }
 {
-    match kind {
-        Kind::Less => Comparison::Less,
-        Kind::LessEqual => Comparison::AtMost,
-        Kind::EqualEqual => Comparison::Equal,
-        Kind::NotEqual => Comparison::NotEqual,
-        Kind::GreaterEqual => Comparison::AtLeast,
+    match sign {
+        Fixed::Less => Comparison::Less,
+        Fixed::LessEqual => Comparison::AtMost,
+        Fixed::EqualEqual => Comparison::Equal,
+        Fixed::NotEqual => Comparison::NotEqual,
+        Fixed::GreaterEqual => Comparison::AtLeast,
         _ => Comparison::Greater,
     }
 }
@@ -43,12 +43,12 @@ impl Values {
         let Some(part) = self.exprs.pop() else {
             return Ok(());
         };
-        let Some(token) = self.kept.pop() else {
+        let Some((place, _)) = self.fixed.pop() else {
             return Ok(());
         };
         let part = Boxed::new(alloc, part)?;
         self.exprs.push(ExprTree {
-            place: token.place,
+            place,
             kind: ExprKind::Neg(part),
         })
     }
@@ -63,14 +63,14 @@ impl Values {
         let Some(left) = self.exprs.pop() else {
             return Ok(());
         };
-        let Some(token) = self.kept.pop() else {
+        let Some((place, sign)) = self.fixed.pop() else {
             return Ok(());
         };
         let left = Boxed::new(alloc, left)?;
         let right = Boxed::new(alloc, right)?;
         self.exprs.push(ExprTree {
-            place: token.place,
-            kind: ExprKind::Binary(op_of(token.kind), left, right),
+            place,
+            kind: ExprKind::Binary(op_of(sign), left, right),
         })
     }
 
@@ -84,14 +84,14 @@ impl Values {
         let Some(left) = self.exprs.pop() else {
             return Ok(());
         };
-        let Some(token) = self.kept.pop() else {
+        let Some((place, sign)) = self.fixed.pop() else {
             return Ok(());
         };
         let left = Boxed::new(alloc, left)?;
         let right = Boxed::new(alloc, right)?;
         self.conds.push(CondTree {
-            place: token.place,
-            kind: CondKind::Compare(comparison_of(token.kind), left, right),
+            place,
+            kind: CondKind::Compare(comparison_of(sign), left, right),
         })
     }
 
@@ -102,12 +102,12 @@ impl Values {
         let Some(part) = self.conds.pop() else {
             return Ok(());
         };
-        let Some(token) = self.kept.pop() else {
+        let Some((place, _)) = self.fixed.pop() else {
             return Ok(());
         };
         let part = Boxed::new(alloc, part)?;
         self.conds.push(CondTree {
-            place: token.place,
+            place,
             kind: CondKind::Not(part),
         })
     }
@@ -122,13 +122,13 @@ impl Values {
         let Some(left) = self.conds.pop() else {
             return Ok(());
         };
-        let Some(token) = self.kept.pop() else {
+        let Some((place, _)) = self.fixed.pop() else {
             return Ok(());
         };
         let left = Boxed::new(alloc, left)?;
         let right = Boxed::new(alloc, right)?;
         self.conds.push(CondTree {
-            place: token.place,
+            place,
             kind: CondKind::And(left, right),
         })
     }
@@ -143,13 +143,13 @@ impl Values {
         let Some(left) = self.conds.pop() else {
             return Ok(());
         };
-        let Some(token) = self.kept.pop() else {
+        let Some((place, _)) = self.fixed.pop() else {
             return Ok(());
         };
         let left = Boxed::new(alloc, left)?;
         let right = Boxed::new(alloc, right)?;
         self.conds.push(CondTree {
-            place: token.place,
+            place,
             kind: CondKind::Or(left, right),
         })
     }

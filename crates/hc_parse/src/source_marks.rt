@@ -3,19 +3,19 @@
 ghost use Rattle.std.specs.Prelude.{◌≡◌, OnOk};
 ghost use Rattle.hc_parse.specs.Builder as spec;
 
-use crate::values::{Values, name_of};
+use crate::values::Values;
 use hc_ast::{Body, Mark, ModuleDef, Param, ParamKind, ProcessDef};
 use hc_list::List;
-use hc_token::Kind;
+use hc_token::Fixed;
 use std::alloc::{AllocError, Global};
 use std::mem;
 
 /// What the word before a parameter says.
-fn param_kind_of(kind: Kind) -> ParamKind
-    ensures { result ≡ spec.param_kind_of kind }
+fn param_kind_of(word: Fixed) -> ParamKind
+    ensures { result ≡ spec.param_kind_of word }
 {
-    match kind {
-        Kind::Ch => ParamKind::Channel,
+    match word {
+        Fixed::Ch => ParamKind::Channel,
         _ => ParamKind::Value,
     }
 }
@@ -33,16 +33,16 @@ impl Values {
     pub(crate) fn param(&mut self) -> Result<(), AllocError>
         ensures { OnOk result (self.new ≡ spec.at_mark Mark.Param self.old) }
     {
-        let Some(word) = self.kept.pop() else {
+        let Some((_, name)) = self.names.pop() else {
             return Ok(());
         };
-        let Some(token) = self.kept.pop() else {
+        let Some((place, word)) = self.fixed.pop() else {
             return Ok(());
         };
         self.params.push(Param {
-            place: token.place,
-            kind: param_kind_of(token.kind),
-            name: name_of(word.content),
+            place,
+            kind: param_kind_of(word),
+            name,
         })
     }
 
@@ -53,13 +53,13 @@ impl Values {
         let Some(body) = self.bodies.pop() else {
             return Ok(());
         };
-        let Some(token) = self.kept.pop() else {
+        let Some((place, name)) = self.names.pop() else {
             return Ok(());
         };
         let params = mem::replace(&mut self.params, List::new(alloc));
         self.modules.push(ModuleDef {
-            place: token.place,
-            name: name_of(token.content),
+            place,
+            name,
             params,
             body,
         })
@@ -90,12 +90,12 @@ impl Values {
         let Some(body) = self.bodies.pop() else {
             return Ok(());
         };
-        let Some(token) = self.kept.pop() else {
+        let Some((place, name)) = self.names.pop() else {
             return Ok(());
         };
         self.processes.push(ProcessDef {
-            place: token.place,
-            name: name_of(token.content),
+            place,
+            name,
             body: Body::Inline(body),
         })
     }
@@ -104,19 +104,19 @@ impl Values {
     pub(crate) fn call(&mut self, alloc: Global) -> Result<(), AllocError>
         ensures { OnOk result (self.new ≡ spec.at_mark Mark.Call self.old) }
     {
-        let Some(callee) = self.kept.pop() else {
+        let Some((callee, module)) = self.names.pop() else {
             return Ok(());
         };
-        let Some(token) = self.kept.pop() else {
+        let Some((place, name)) = self.names.pop() else {
             return Ok(());
         };
         let arguments = mem::replace(&mut self.arguments, List::new(alloc));
         self.processes.push(ProcessDef {
-            place: token.place,
-            name: name_of(token.content),
+            place,
+            name,
             body: Body::Call {
-                place: callee.place,
-                module: name_of(callee.content),
+                place: callee,
+                module,
                 arguments,
             },
         })

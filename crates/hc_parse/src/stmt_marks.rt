@@ -3,7 +3,7 @@
 ghost use Rattle.std.specs.Prelude.{◌≡◌, OnOk};
 ghost use Rattle.hc_parse.specs.Builder as spec;
 
-use crate::values::{Values, name_of};
+use crate::values::Values;
 use hc_ast::{BranchTree, IoTree, Mark, RateTree, StmtKind, StmtTree};
 use hc_list::List;
 use std::alloc::{AllocError, Global};
@@ -31,11 +31,11 @@ impl Values {
     pub(crate) fn skip(&mut self) -> Result<(), AllocError>
         ensures { OnOk result (self.new ≡ spec.at_mark Mark.Skip self.old) }
     {
-        let Some(token) = self.kept.pop() else {
+        let Some((place, _)) = self.fixed.pop() else {
             return Ok(());
         };
         self.statement(StmtTree {
-            place: token.place,
+            place,
             kind: StmtKind::Skip,
         })
     }
@@ -47,15 +47,12 @@ impl Values {
         let Some(value) = self.exprs.pop() else {
             return Ok(());
         };
-        let Some(token) = self.kept.pop() else {
+        let Some((place, target)) = self.names.pop() else {
             return Ok(());
         };
         self.statement(StmtTree {
-            place: token.place,
-            kind: StmtKind::Assign {
-                target: name_of(token.content),
-                value,
-            },
+            place,
+            kind: StmtKind::Assign { target, value },
         })
     }
 
@@ -66,11 +63,11 @@ impl Values {
         let Some(time) = self.exprs.pop() else {
             return Ok(());
         };
-        let Some(token) = self.kept.pop() else {
+        let Some((place, _)) = self.fixed.pop() else {
             return Ok(());
         };
         self.statement(StmtTree {
-            place: token.place,
+            place,
             kind: StmtKind::Wait { time },
         })
     }
@@ -82,11 +79,11 @@ impl Values {
         let Some(value) = self.exprs.pop() else {
             return Ok(());
         };
-        let Some(token) = self.kept.pop() else {
+        let Some((place, _)) = self.fixed.pop() else {
             return Ok(());
         };
         self.statement(StmtTree {
-            place: token.place,
+            place,
             kind: StmtKind::Log { value },
         })
     }
@@ -98,28 +95,23 @@ impl Values {
         let Some(value) = self.exprs.pop() else {
             return Ok(());
         };
-        let Some(token) = self.kept.pop() else {
+        let Some((place, channel)) = self.names.pop() else {
             return Ok(());
         };
-        let channel = name_of(token.content);
-        self.ios
-            .push((token.place, IoTree::Send { channel, value }))
+        self.ios.push((place, IoTree::Send { channel, value }))
     }
 
     /// The variable of a receive ends.
     pub(crate) fn receive(&mut self) -> Result<(), AllocError>
         ensures { OnOk result (self.new ≡ spec.at_mark Mark.Receive self.old) }
     {
-        let Some(variable) = self.kept.pop() else {
+        let Some((_, target)) = self.names.pop() else {
             return Ok(());
         };
-        let Some(token) = self.kept.pop() else {
+        let Some((place, channel)) = self.names.pop() else {
             return Ok(());
         };
-        let target = name_of(variable.content);
-        let channel = name_of(token.content);
-        self.ios
-            .push((token.place, IoTree::Receive { channel, target }))
+        self.ios.push((place, IoTree::Receive { channel, target }))
     }
 
     /// A communication that is a statement ends.
@@ -145,11 +137,11 @@ impl Values {
         let Some(test) = self.conds.pop() else {
             return Ok(());
         };
-        let Some(token) = self.kept.pop() else {
+        let Some((place, _)) = self.fixed.pop() else {
             return Ok(());
         };
         self.statement(StmtTree {
-            place: token.place,
+            place,
             kind: StmtKind::If {
                 test,
                 yes,
@@ -171,11 +163,11 @@ impl Values {
         let Some(test) = self.conds.pop() else {
             return Ok(());
         };
-        let Some(token) = self.kept.pop() else {
+        let Some((place, _)) = self.fixed.pop() else {
             return Ok(());
         };
         self.statement(StmtTree {
-            place: token.place,
+            place,
             kind: StmtKind::If {
                 test,
                 yes,
@@ -194,11 +186,11 @@ impl Values {
         let Some(left) = self.bodies.pop() else {
             return Ok(());
         };
-        let Some(token) = self.kept.pop() else {
+        let Some((place, _)) = self.fixed.pop() else {
             return Ok(());
         };
         self.statement(StmtTree {
-            place: token.place,
+            place,
             kind: StmtKind::Pick { left, right },
         })
     }
@@ -210,11 +202,11 @@ impl Values {
         let Some(body) = self.bodies.pop() else {
             return Ok(());
         };
-        let Some(token) = self.kept.pop() else {
+        let Some((place, _)) = self.fixed.pop() else {
             return Ok(());
         };
         self.statement(StmtTree {
-            place: token.place,
+            place,
             kind: StmtKind::Forever { body },
         })
     }
@@ -229,11 +221,11 @@ impl Values {
         let Some(body) = self.bodies.pop() else {
             return Ok(());
         };
-        let Some(token) = self.kept.pop() else {
+        let Some((place, _)) = self.fixed.pop() else {
             return Ok(());
         };
         self.statement(StmtTree {
-            place: token.place,
+            place,
             kind: StmtKind::Loop { test, body },
         })
     }
@@ -252,11 +244,11 @@ impl Values {
         let Some(branches) = self.choices.pop() else {
             return Ok(());
         };
-        let Some(token) = self.kept.pop() else {
+        let Some((place, _)) = self.fixed.pop() else {
             return Ok(());
         };
         self.statement(StmtTree {
-            place: token.place,
+            place,
             kind: StmtKind::Choice { branches },
         })
     }
@@ -293,15 +285,15 @@ impl Values {
         let Some(value) = self.exprs.pop() else {
             return Ok(());
         };
-        let Some(token) = self.kept.pop() else {
+        let Some((place, variable)) = self.names.pop() else {
             return Ok(());
         };
         let Some(mut rates) = self.rates.pop() else {
             return Ok(());
         };
         rates.push(RateTree {
-            place: token.place,
-            variable: name_of(token.content),
+            place,
+            variable,
             value,
         })?;
         self.rates.push(rates)
@@ -320,11 +312,11 @@ impl Values {
         let Some(domain) = self.conds.pop() else {
             return Ok(());
         };
-        let Some(token) = self.kept.pop() else {
+        let Some((place, _)) = self.fixed.pop() else {
             return Ok(());
         };
         self.statement(StmtTree {
-            place: token.place,
+            place,
             kind: StmtKind::Evolve {
                 rates,
                 domain,

@@ -16,7 +16,7 @@ use hc_ast::{Flaw, Mark, Role};
 use hc_frac::Place;
 use hc_grammar::{Fault, Reader, Row, Symbol};
 use hc_table::{Head, row_at, takes};
-use hc_token::{Kind, Token};
+use hc_token::{Kind, Lexeme, Token};
 use std::alloc::{AllocError, Global};
 
 /// What stands behind some tokens of a source.
@@ -86,7 +86,7 @@ impl Reader for SourceText {
     }
 
     fn kind(token: &Token) -> Kind {
-        token.kind
+        token.lexeme.kind()
     }
 
     fn place(token: &Token) -> Place {
@@ -98,9 +98,9 @@ impl Reader for SourceText {
     }
 
     fn early(&self, token: &Token) -> Option<Flaw> {
-        match token.kind {
-            Kind::LongWord => Some(Flaw::NameTooLong),
-            Kind::LargeNumber => Some(Flaw::NumberUnfit),
+        match &token.lexeme {
+            Lexeme::LongWord => Some(Flaw::NameTooLong),
+            Lexeme::LargeNumber => Some(Flaw::NumberUnfit),
             _ => None,
         }
     }

@@ -1,16 +1,15 @@
 //! The parts of the tree that are read so far.
 
 ghost use Rattle.std.specs.Prelude.{◌≡◌, OnOk};
-ghost use Rattle.hc_ast.specs.Leaves.{name_in, number_in};
 
 use hc_ast::{
     BranchTree, CondKind, CondTree, ExprKind, ExprTree, IoTree, ModuleDef, Param, ProcessDef,
     RateTree, Role, StmtTree, Tree,
 };
-use hc_frac::{Decimal, Name, Place};
+use hc_frac::{Name, Place};
 use hc_grammar::Stack;
 use hc_list::List;
-use hc_token::{Content, Kind, Token};
+use hc_token::{Fixed, Lexeme, Token};
 use std::alloc::{AllocError, Global};
 
 /// The parts that wait for the part that holds them.
@@ -28,42 +27,14 @@ pub(crate) struct Values {
     pub(crate) rates: Stack<List<RateTree>>,
     /// Communications, each at its first token.
     pub(crate) ios: Stack<(Place, IoTree)>,
-    /// Tokens that the tree still needs.
-    pub(crate) kept: Stack<Token>,
+    /// Keywords and signs that the tree still needs, by their places.
+    pub(crate) fixed: Stack<(Place, Fixed)>,
+    /// Names that the tree still needs, rates among them, by their places.
+    pub(crate) names: Stack<(Place, Name)>,
     pub(crate) params: List<Param>,
     pub(crate) arguments: List<ExprTree>,
     pub(crate) modules: List<ModuleDef>,
     pub(crate) processes: List<ProcessDef>,
-}
-
-/// The name that a token says. Names and rates say one.
-pub(crate) fn name_of(content: Content) -> Name
-    ensures { result ≡ name_in content }
-{
-    match content {
-        Content::Name(name) => name,
-        _ => {
-            let Some(name) = Name::new(b"x") else {
-                unreachable!()
-            };
-            name
-        }
-    }
-}
-
-/// The number that a token says. Numbers say one.
-fn number_of(content: Content) -> Decimal
-    ensures { result ≡ number_in content }
-{
-    match content {
-        Content::Number(number) => number,
-        _ => {
-            let Some(number) = Decimal::new(0, 0) else {
-                unreachable!()
-            };
-            number
-        }
-    }
 }
 
 impl Values {
@@ -80,7 +51,8 @@ impl Values {
             choices: Stack::new(alloc),
             rates: Stack::new(alloc),
             ios: Stack::new(alloc),
-            kept: Stack::new(alloc),
+            fixed: Stack::new(alloc),
+            names: Stack::new(alloc),
             params: List::new(alloc),
             arguments: List::new(alloc),
             modules: List::new(alloc),
@@ -92,39 +64,46 @@ impl Values {
     pub(crate) fn token(&mut self, role: Role, token: Token) -> Result<(), AllocError>
         ensures { OnOk result (self.new ≡ spec.at_token role token self.old) }
     {
+        let Token { place, lexeme } = token;
         match role {
             Role::Plain | Role::Open | Role::Close => Ok(()),
-            Role::Leaf => self.leaf(token),
-            Role::Keep | Role::Operator | Role::Prefix | Role::Begin => self.kept.push(token),
+            Role::Leaf => self.leaf(place, lexeme),
+            Role::Keep | Role::Operator | Role::Prefix | Role::Begin => self.keep(place, lexeme),
         }
     }
 
     /// A number, a name, `true` or `false`.
-    fn leaf(&mut self, token: Token) -> Result<(), AllocError>
-        ensures { OnOk result (self.new ≡ spec.leaf token.kind token self.old) }
+    fn leaf(&mut self, place: Place, lexeme: Lexeme) -> Result<(), AllocError>
+        ensures { OnOk result (self.new ≡ spec.leaf lexeme place self.old) }
     {
-        let Token {
-            place,
-            kind,
-            content,
-        } = token;
-        match kind {
-            Kind::Number => self.exprs.push(ExprTree {
+        match lexeme {
+            Lexeme::Number(number) => self.exprs.push(ExprTree {
                 place,
-                kind: ExprKind::Number(number_of(content)),
+                kind: ExprKind::Number(number),
             }),
-            Kind::Name => self.exprs.push(ExprTree {
+            Lexeme::Name(name) => self.exprs.push(ExprTree {
                 place,
-                kind: ExprKind::Name(name_of(content)),
+                kind: ExprKind::Name(name),
             }),
-            Kind::True => self.conds.push(CondTree {
+            Lexeme::Fixed(Fixed::True) => self.conds.push(CondTree {
                 place,
                 kind: CondKind::True,
             }),
-            Kind::False => self.conds.push(CondTree {
+            Lexeme::Fixed(Fixed::False) => self.conds.push(CondTree {
                 place,
                 kind: CondKind::False,
             }),
+            _ => Ok(()),
+        }
+    }
+
+    /// A token that the tree still needs: the name that it says, or which keyword or sign it is.
+    fn keep(&mut self, place: Place, lexeme: Lexeme) -> Result<(), AllocError>
+        ensures { OnOk result (self.new ≡ spec.keep lexeme place self.old) }
+    {
+        match lexeme {
+            Lexeme::Fixed(fixed) => self.fixed.push((place, fixed)),
+            Lexeme::Name(name) | Lexeme::Rate(name) => self.names.push((place, name)),
             _ => Ok(()),
         }
     }

@@ -1,6 +1,5 @@
 -- What the phrases of expressions and conditions say without places.
 use Rattle.hc_ast.specs.Bare.{BareExpr, number, name, neg, binary, BareCond, always, never, compare, negation, both, either}
-use Rattle.hc_ast.specs.Leaves.{name_in, number_in}
 use Rattle.hc_ast.specs.Exprs as g
 use Rattle.hc_ast.specs.Conds as h
 
@@ -21,8 +20,8 @@ abbrev mutual
 
   pub factor_bare : g.Factor → BareExpr
   factor_bare (g.minus t f) = neg (factor_bare f)
-  factor_bare (g.number t) = number (number_in t.0.content).digits (number_in t.0.content).places
-  factor_bare (g.variable t) = name (name_in t.0.content)
+  factor_bare (g.number t) = number t.1.digits t.1.places
+  factor_bare (g.variable t) = name t.1
   factor_bare (g.brackets a x b) = expr_bare x
 
 abbrev mutual

@@ -1,7 +1,6 @@
 -- What the phrases of sources say without places, and that their trees say it.
 use Rattle.std.proofs.Common.{◌≡◌, refl, ap, ap₂, List, [], ◌∷◌, map}
 use Rattle.hc_ast.specs.Bare.{BareExpr, BareParam, BareModule, inline, call, BareProcess, BareTree}
-use Rattle.hc_ast.specs.Leaves.{name_in}
 use Rattle.hc_ast.specs.Unplaced.{bare_expr, bare_param, bare_module, bare_process, bare}
 use Rattle.hc_ast.specs.Sources as g
 use Rattle.hc_ast.specs.SourceTrees.{param_tree, more_params_tree, params_tree, module_tree, more_arguments_tree, arguments_tree, process_tree, processes_tree, source_tree, whole_tree}
@@ -11,7 +10,7 @@ use Rattle.hc_print.proofs.BareStmts.{seq_bare}
 use Rattle.hc_print.proofs.StmtTrees.{seq_same}
 
 abbrev pub param_bare : g.Param → BareParam
-param_bare (g.param t x) = record { kind = t.1; name = name_in x.0.content }
+param_bare (g.param t x) = record { kind = t.1; name = x.1 }
 
 abbrev pub more_params_bare : g.MoreParams → List BareParam
 more_params_bare g.no_param = []
@@ -23,7 +22,7 @@ params_bare (g.some x xs) = param_bare x ∷ more_params_bare xs
 
 abbrev pub module_bare : g.Module → BareModule
 module_bare (g.module_of t x a ps b c d ss f l) =
-    record { name = name_in x.0.content; params = params_bare ps; body = seq_bare ss }
+    record { name = x.1; params = params_bare ps; body = seq_bare ss }
 
 abbrev pub more_arguments_bare : g.MoreArguments → List BareExpr
 more_arguments_bare g.no_argument = []
@@ -34,9 +33,9 @@ arguments_bare g.without = []
 arguments_bare (g.with e es) = expr_bare e ∷ more_arguments_bare es
 
 abbrev pub process_bare : g.Process → BareProcess
-process_bare (g.inline x t a ss b) = record { name = name_in x.0.content; body = inline (seq_bare ss) }
+process_bare (g.inline x t a ss b) = record { name = x.1; body = inline (seq_bare ss) }
 process_bare (g.call x t y a es b) =
-    record { name = name_in x.0.content; body = call (name_in y.0.content) (arguments_bare es) }
+    record { name = x.1; body = call y.1 (arguments_bare es) }
 
 abbrev pub processes_bare : g.Processes → List BareProcess
 processes_bare g.no_process = []
@@ -66,7 +65,7 @@ params_same (g.some x xs) = ap₂ ◌∷◌ (param_same x) (more_params_same xs)
 
 module_same : (x : g.Module) → bare_module (module_tree x) ≡ module_bare x
 module_same (g.module_of t x a ps b c d ss f l) =
-    ap₂ (λ qs rs. let one : BareModule = record { name = name_in x.0.content; params = qs; body = rs } in one)
+    ap₂ (λ qs rs. let one : BareModule = record { name = x.1; params = qs; body = rs } in one)
     (params_same ps) (seq_same ss)
 
 more_arguments_same : (es : g.MoreArguments) → map bare_expr (more_arguments_tree es) ≡ more_arguments_bare es
@@ -79,9 +78,9 @@ arguments_same (g.with e es) = ap₂ ◌∷◌ (expr_same e) (more_arguments_sam
 
 process_same : (x : g.Process) → bare_process (process_tree x) ≡ process_bare x
 process_same (g.inline x t a ss b) =
-    ap (λ rs. let one : BareProcess = record { name = name_in x.0.content; body = inline rs } in one) (seq_same ss)
+    ap (λ rs. let one : BareProcess = record { name = x.1; body = inline rs } in one) (seq_same ss)
 process_same (g.call x t y a es b) =
-    ap (λ rs. let one : BareProcess = record { name = name_in x.0.content; body = call (name_in y.0.content) rs } in one)
+    ap (λ rs. let one : BareProcess = record { name = x.1; body = call y.1 rs } in one)
     (arguments_same es)
 
 processes_same : (xs : g.Processes) → map bare_process (processes_tree xs) ≡ processes_bare xs

@@ -2,16 +2,15 @@
 use Rattle.std.proofs.Common.{List, [], ◌∷◌}
 use Rattle.hc_ast.specs.Bare.{BareIo, send, receive, BareRate, BareStmt, BareStmts, no_more, then, BareBranches, no_other, or_else}
 use Rattle.hc_ast.specs.Bare as b
-use Rattle.hc_ast.specs.Leaves.{name_in}
 use Rattle.hc_ast.specs.Stmts as g
 use Rattle.hc_print.proofs.BareExprs.{expr_bare, cond_bare}
 
 abbrev pub io_bare : g.Io → BareIo
-io_bare (g.send x t e) = send (name_in x.0.content) (expr_bare e)
-io_bare (g.receive x t y) = receive (name_in x.0.content) (name_in y.0.content)
+io_bare (g.send x t e) = send x.1 (expr_bare e)
+io_bare (g.receive x t y) = receive x.1 y.1
 
 abbrev pub rate_bare : g.Rate → BareRate
-rate_bare (g.rate x t e) = record { variable = name_in x.0.content; value = expr_bare e }
+rate_bare (g.rate x t e) = record { variable = x.1; value = expr_bare e }
 
 abbrev pub rates_bare : g.Rates → List BareRate
 rates_bare g.no_rate = []
@@ -27,7 +26,7 @@ abbrev mutual
 
   pub stmt_bare : g.Stmt → BareStmt
   stmt_bare (g.skip t) = b.skip
-  stmt_bare (g.assign x t e) = b.assign (name_in x.0.content) (expr_bare e)
+  stmt_bare (g.assign x t e) = b.assign x.1 (expr_bare e)
   stmt_bare (g.wait t a e z) = b.wait (expr_bare e)
   stmt_bare (g.log t a e z) = b.log (expr_bare e)
   stmt_bare (g.communicate i) = b.io (io_bare i)

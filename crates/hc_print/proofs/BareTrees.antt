@@ -5,7 +5,6 @@ use Rattle.hc_ast.specs.declared.expr.ExprTree.{ExprTree}
 use Rattle.hc_ast.specs.declared.expr.ExprKind.TheVariants as e
 use Rattle.hc_ast.specs.declared.expr.CondTree.{CondTree}
 use Rattle.hc_ast.specs.declared.expr.CondKind.TheVariants as c
-use Rattle.hc_ast.specs.Leaves.{name_in, number_in}
 use Rattle.hc_ast.specs.Unplaced.{bare_expr, bare_cond}
 use Rattle.hc_ast.specs.Exprs as g
 use Rattle.hc_ast.specs.Exprs.{expr_at, expr_tree, sums_tree, term_tree, products_tree, factor_tree}
@@ -41,8 +40,8 @@ mutual
   factor_same (g.minus t f) =
       bare_neg (expr_at t.0.place (e.Neg (factor_tree f))) (factor_tree f) refl ∙ ap neg (factor_same f)
   factor_same (g.number t) =
-      bare_number (expr_at t.0.place (e.Number (number_in t.0.content))) (number_in t.0.content) refl
-  factor_same (g.variable t) = bare_name (expr_at t.0.place (e.Name (name_in t.0.content))) (name_in t.0.content) refl
+      bare_number (expr_at t.0.place (e.Number t.1)) t.1 refl
+  factor_same (g.variable t) = bare_name (expr_at t.0.place (e.Name t.1)) t.1 refl
   factor_same (g.brackets a x b) = expr_same x
 
 mutual

@@ -1,6 +1,6 @@
 -- Lists of branches, all written.
 use Rattle.std.proofs.Common.{◌≡◌, ◌≤◌, ℕ, zero, suc, List, [], ◌∷◌, ◌++◌, length, drop, ap, sym, ◌∙◌, refl, arith}
-use Rattle.hc_token.specs.declared.kind.Kind.TheVariants as k
+use Rattle.hc_token.specs.declared.fixed.Fixed.TheVariants as fix
 use Rattle.hc_ast.specs.declared.stmt.BranchTree.{BranchTree}
 use Rattle.hc_ast.specs.Unplaced.{bare_branches}
 use Rattle.hc_print.specs.Lexemes.{Lexemes, fixed}
@@ -23,6 +23,6 @@ all_branches old new i more bs h e w =
 -- where there are branches, the interrupt of an evolution is a choice behind its sign
 pub some_interrupt : (bs : List BranchTree) → 1 ≤ length bs → (w : Lexemes)
     → interrupt (bare_branches bs) w
-    ≡ fixed k.BarGreater ∷ fixed k.EmptySquare ∷ fixed k.OpenRound ∷ branches (bare_branches bs) (fixed k.CloseRound ∷ w)
+    ≡ fixed fix.BarGreater ∷ fixed fix.EmptySquare ∷ fixed fix.OpenRound ∷ branches (bare_branches bs) (fixed fix.CloseRound ∷ w)
 some_interrupt [] h w = absurd (omega arith)
 some_interrupt (b ∷ bs) h w = refl

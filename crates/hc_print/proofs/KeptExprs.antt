@@ -2,6 +2,7 @@
 use Rattle.std.proofs.Common.{◌≡◌, ◌≤◌, ℕ, ◌+◌, ◌-◌, Bool, true, false, Option, Some, ◌∷◌, refl, subst, arith}
 use Rattle.std.specs.Prelude.{IfSome}
 use Rattle.hc_grammar.specs.Texts.{Read, Did}
+use Rattle.hc_token.specs.declared.fixed.Fixed.TheVariants as fix
 use Rattle.hc_token.specs.declared.kind.Kind.{Kind}
 use Rattle.hc_token.specs.declared.kind.Kind.TheVariants as k
 use Rattle.hc_ast.specs.declared.role.Role.TheVariants as r
@@ -9,6 +10,7 @@ use Rattle.hc_ast.specs.declared.role.Mark.TheVariants as m
 use Rattle.hc_ast.specs.declared.expr.Op.{Op}
 use Rattle.hc_ast.specs.declared.expr.Op.TheVariants as sign
 use Rattle.hc_ast.specs.Bare.{BareExpr, number, name, neg, binary, BareCond, always, never, compare, negation, both, either}
+use Rattle.hc_token.specs.Lexemes.{kind_of}
 use Rattle.hc_ast.specs.Leaves.{Spelled, sum_op, product_op}
 use Rattle.hc_ast.specs.Exprs as g
 use Rattle.hc_ast.specs.Conds as h
@@ -16,7 +18,7 @@ use Rattle.hc_print.specs.declared.level.Level.{Level}
 use Rattle.hc_print.specs.declared.level.Level.TheVariants as at
 use Rattle.hc_print.proofs.BareExprs.{expr_bare, sums_bare, term_bare, products_bare, factor_bare, cond_bare, ors_bare, both_bare, ands_bare, one_bare}
 use Rattle.hc_print.proofs.Peaks.{peak, size, cond_peak, cond_size}
-use Rattle.hc_print.proofs.Sound.{GoodName, GoodNumber, IsSound}
+use Rattle.hc_print.proofs.Sound.{GoodName, GoodNumber, IsSound, sound_name, sound_number}
 use Rattle.hc_print.proofs.Walking.{Walks, walks_at}
 
 -- the names and numbers of an expression are such
@@ -68,14 +70,14 @@ is_product _ = false
 
 all_sums : (kind : Kind) → IfSome (sum_op kind) (λ op. is_sum op ≡ true)
 unfolding is_sum
-all_sums k.Plus = refl
-all_sums k.Minus = refl
+all_sums (k.Fixed fix.Plus) = refl
+all_sums (k.Fixed fix.Minus) = refl
 all_sums _ = tt
 
 all_products : (kind : Kind) → IfSome (product_op kind) (λ op. is_product op ≡ true)
 unfolding is_product
-all_products k.Star = refl
-all_products k.Slash = refl
+all_products (k.Fixed fix.Star) = refl
+all_products (k.Fixed fix.Slash) = refl
 all_products _ = tt
 
 sum_is : (kind : Kind) (op : Op) → sum_op kind ≡ Some op → is_sum op ≡ true
@@ -119,7 +121,7 @@ mutual
   sums_kept g.no_more left v d n i good deep few w = record { good = good; deep = deep; few = few; after = w }
   sums_kept (g.added s t ss) left v d n i good deep few (sound, room, w) =
       let p = term_kept t (Did m.Binary ∷ g.sums ss v) d (n + size left + 1) i w in
-      let both_deep = sum_deep s.1 (sum_is s.0.kind s.1 s.2) left (term_bare t) d deep p.deep in
+      let both_deep = sum_deep s.1 (sum_is (kind_of s.0.lexeme) s.1 s.2) left (term_bare t) d deep p.deep in
       sums_kept ss (binary s.1 left (term_bare t)) v d n i (good, p.good) both_deep (omega (arith, p.few))
       (walks_at IsSound (g.sums ss v) d d (n + size left + 1 + size (term_bare t)) (n + (1 + (size left + size (term_bare t))))
       refl (omega arith) p.after)
@@ -136,7 +138,7 @@ mutual
   products_kept g.no_other left v d n i good deep few w = record { good = good; deep = deep; few = few; after = w }
   products_kept (g.multiplied s f ps) left v d n i good deep few (sound, room, w) =
       let p = factor_kept f (Did m.Binary ∷ g.products ps v) d (n + size left + 1) i w in
-      let both_deep = product_deep s.1 (product_is s.0.kind s.1 s.2) left (factor_bare f) d deep p.deep in
+      let both_deep = product_deep s.1 (product_is (kind_of s.0.lexeme) s.1 s.2) left (factor_bare f) d deep p.deep in
       products_kept ps (binary s.1 left (factor_bare f)) v d n i (good, p.good) both_deep (omega (arith, p.few))
       (walks_at IsSound (g.products ps v) d d (n + size left + 1 + size (factor_bare f))
       (n + (1 + (size left + size (factor_bare f)))) refl (omega arith) p.after)
@@ -152,13 +154,13 @@ mutual
             (omega arith) (omega arith) p.after;
       }
   factor_kept (g.number t) v d n i (sound, room, w) = record {
-    good = sound.number t.1;
+    good = sound_number t sound;
     deep = omega arith;
     few = omega arith;
     after = w;
   }
   factor_kept (g.variable t) v d n i (sound, room, w) = record {
-    good = sound.name t.1;
+    good = sound_name t sound;
     deep = omega arith;
     few = omega arith;
     after = w;

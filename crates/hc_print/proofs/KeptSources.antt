@@ -11,7 +11,7 @@ use Rattle.hc_ast.specs.SourceRoles.{param, more_params, params, module_of, more
 use Rattle.hc_print.proofs.BareSources.{param_bare, more_params_bare, params_bare, module_bare, more_arguments_bare, arguments_bare, process_bare, processes_bare, source_bare, whole_bare}
 use Rattle.hc_print.proofs.OkStmts.{OkExpr, AreSome, OkStmts}
 use Rattle.hc_print.proofs.KeptStmts.{Left, expr_ok, seq_kept}
-use Rattle.hc_print.proofs.Sound.{GoodName, IsSound}
+use Rattle.hc_print.proofs.Sound.{GoodName, IsSound, sound_name}
 use Rattle.hc_print.proofs.Walking.{Walks}
 
 abbrev pub OkParams : List BareParam → Type 0
@@ -49,7 +49,7 @@ abbrev pub OkTree : BareTree → Type 0
 OkTree t = OkModules t.modules × OkSystem t.processes
 
 param_kept : (x : g.Param) (v : Spelled) (n : ℕ) → Walks IsSound (param x v) 0 n → GoodName (param_bare x).name × Left v 0
-param_kept (g.param t x) v n (_, _, (sx, _, w)) = (sx.name x.1, (n, w))
+param_kept (g.param t x) v n (_, _, (sx, _, w)) = (sound_name x sx, (n, w))
 
 more_params_kept : (xs : g.MoreParams) (v : Spelled) (n : ℕ) → Walks IsSound (more_params xs v) 0 n
     → OkParams (more_params_bare xs) × Left v 0
@@ -71,7 +71,7 @@ module_kept (g.module_of t x a ps b c d ss f l) v n (_, _, (sx, _, (_, _, w))) =
     let last = Read f.0 r.Plain ∷ Read l.0 r.Plain ∷ Did m.Module ∷ v in
     let p = params_kept ps (Read b.0 r.Plain ∷ Read c.0 r.Plain ∷ Read d.0 r.Plain ∷ seq ss last) n w in
     let q = seq_kept ss last 0 p.1.0 (omega arith) p.1.1.2.2.2 in
-    ((sx.name x.1, p.0, q.0), (q.1.0, q.1.1.2.2))
+    ((sound_name x sx, p.0, q.0), (q.1.0, q.1.1.2.2))
 
 more_arguments_kept : (es : g.MoreArguments) (v : Spelled) (n : ℕ) → Walks IsSound (more_arguments es v) 0 n
     → OkArguments (more_arguments_bare es) × Left v 0
@@ -91,10 +91,10 @@ arguments_kept (g.with e es) v w =
 process_kept : (x : g.Process) (v : Spelled) (n : ℕ) → Walks IsSound (process x v) 0 n → OkProcess (process_bare x) × Left v 0
 process_kept (g.inline x t a ss b) v n (sx, _, (_, _, (_, _, w))) =
     let p = seq_kept ss (Read b.0 r.Plain ∷ Did m.Inline ∷ v) 0 n (omega arith) w in
-    ((sx.name x.1, p.0), (p.1.0, p.1.1.2))
+    ((sound_name x sx, p.0), (p.1.0, p.1.1.2))
 process_kept (g.call x t y a es b) v n (sx, _, (_, _, (sy, _, (_, _, w)))) =
     let p = arguments_kept es (Read b.0 r.Plain ∷ Did m.Call ∷ v) w in
-    ((sx.name x.1, (sy.name y.1, p.0)), (p.1.0, p.1.1.2))
+    ((sound_name x sx, (sound_name y sy, p.0)), (p.1.0, p.1.1.2))
 
 processes_kept : (xs : g.Processes) (v : Spelled) (n : ℕ) → Walks IsSound (processes xs v) 0 n
     → OkProcesses (processes_bare xs) × Left v 0

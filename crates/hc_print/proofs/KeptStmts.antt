@@ -12,7 +12,7 @@ use Rattle.hc_print.proofs.BareExprs.{expr_bare, cond_bare}
 use Rattle.hc_print.proofs.BareStmts.{io_bare, rate_bare, rates_bare, seq_bare, more_bare, stmt_bare, interrupt_bare, branches_bare}
 use Rattle.hc_print.proofs.KeptExprs.{expr_kept, cond_kept}
 use Rattle.hc_print.proofs.OkStmts.{OkExpr, OkCond, OkIo, OkRate, OkRates, AreSome, OkStmt, OkStmts, OkBranches}
-use Rattle.hc_print.proofs.Sound.{IsSound}
+use Rattle.hc_print.proofs.Sound.{IsSound, sound_name, sound_rate}
 use Rattle.hc_print.proofs.Walking.{Walks, walks_at}
 
 -- the rest of a text, behind any number of nodes
@@ -35,12 +35,12 @@ cond_ok c v d i w =
 
 io_kept : (x : g.Io) (v : Spelled) (d n : ℕ) → d ≤ 64 → Walks IsSound (io x v) d n → OkIo (io_bare x) d × Left v d
 io_kept (g.send x s e) v d n i (sx, _, (_, _, w)) =
-    let p = expr_ok e (Did m.Send ∷ v) d i w in ((sx.name x.1, p.0), p.1)
-io_kept (g.receive x s y) v d n i (sx, _, (_, _, (sy, _, w))) = ((sx.name x.1, sy.name y.1), (n, w))
+    let p = expr_ok e (Did m.Send ∷ v) d i w in ((sound_name x sx, p.0), p.1)
+io_kept (g.receive x s y) v d n i (sx, _, (_, _, (sy, _, w))) = ((sound_name x sx, sound_name y sy), (n, w))
 
 rate_kept : (x : g.Rate) (v : Spelled) (d n : ℕ) → d ≤ 64 → Walks IsSound (rate x v) d n → OkRate (rate_bare x) d × Left v d
 rate_kept (g.rate x s e) v d n i (sx, _, (_, _, w)) =
-    let p = expr_ok e (Did m.Rate ∷ v) d i w in ((sx.rate x.1, p.0), p.1)
+    let p = expr_ok e (Did m.Rate ∷ v) d i w in ((sound_rate x sx, p.0), p.1)
 
 rates_kept : (xs : g.Rates) (v : Spelled) (d n : ℕ) → d ≤ 64 → Walks IsSound (rates xs v) d n
     → OkRates (rates_bare xs) d × Left v d
@@ -68,7 +68,7 @@ mutual
   stmt_kept : (x : g.Stmt) (v : Spelled) (d n : ℕ) → d ≤ 64 → Walks IsSound (stmt x v) d n → OkStmt (stmt_bare x) d × Left v d
   stmt_kept (g.skip t) v d n i (_, _, w) = (tt, (n, w))
   stmt_kept (g.assign x t e) v d n i (sx, _, (_, _, w)) =
-      let p = expr_ok e (Did m.Assign ∷ v) d i w in ((sx.name x.1, p.0), p.1)
+      let p = expr_ok e (Did m.Assign ∷ v) d i w in ((sound_name x sx, p.0), p.1)
   stmt_kept (g.wait t a e z) v d n i (_, _, (_, _, w)) =
       let p = expr_ok e (Read z.0 r.Plain ∷ Did m.Wait ∷ v) d i w in (p.0, (p.1.0, p.1.1.2))
   stmt_kept (g.log t a e z) v d n i (_, _, (_, _, w)) =

@@ -1,16 +1,23 @@
 -- A phrase at the front of tokens that say a canonical spelling.
-use Rattle.std.proofs.Common.{◌≡◌, ℕ, ◌+◌, ◌≤◌, List, None}
+use Rattle.std.proofs.Common.{◌≡◌, ℕ, ◌+◌, ◌≤◌, List, Option, None}
 use Rattle.hc_grammar.specs.Texts as texts
+use Rattle.hc_token.specs.declared.token.Lexeme.{Lexeme}
 use Rattle.hc_token.specs.declared.token.Token.{Token}
+use Rattle.hc_token.specs.Lexemes.{kind_of}
 use Rattle.hc_ast.specs.Leaves.{Spelled}
+use Rattle.hc_ast.specs.declared.flaw.Flaw.{Flaw}
 use Rattle.hc_ast.specs.Counts.{unfit}
 use Rattle.hc_print.specs.Lexemes.{Lexemes}
 use Rattle.hc_print.proofs.Saying.{Says}
 use Rattle.hc_print.proofs.Walking.{Walks}
 
--- nothing is wrong with a token as it stands
+-- what is wrong with a token as it stands
+abbrev pub flaw_of : Lexeme → Option Flaw
+flaw_of l = unfit (kind_of l)
+
+-- nothing is
 abbrev pub IsFit : Token → Type 0
-IsFit t = unfit t.kind ≡ None
+IsFit t = flaw_of t.lexeme ≡ None
 
 -- some tokens are those of a phrase that is b but for places, and then others that say w
 pub record Phrase {X B : Type 0} (spell : X → Spelled → Spelled) (bare_of : X → B) (Goes : (Spelled → Spelled) → Type 0)

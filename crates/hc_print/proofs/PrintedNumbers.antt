@@ -12,11 +12,11 @@ use Rattle.std.proofs.Math.Arith.{mod-mul}
 use Rattle.std.proofs.Math.Nat.{one-le-pow, div-add-mod, div-le_self, pow-succ'}
 use Rattle.std.proofs.Math.Seq.{drop-append_seam}
 use Rattle.hc_frac.specs.declared.place.Place.{Place}
-use Rattle.hc_token.specs.declared.kind.Kind.TheVariants as k
-use Rattle.hc_token.specs.declared.token.Content.TheVariants as says
-use Rattle.hc_token.specs.Numbers as numbers
-use Rattle.hc_token.specs.Numbers.{front_digits, point_digits, places_digits, point_len, number_len, in_range, number_of, number}
-use Rattle.hc_token.specs.Pieces.{number_piece, piece}
+use Rattle.hc_token.specs.declared.token.Lexeme.TheVariants as lex
+use Rattle.hc_token.specs.Decimals.{in_range}
+use Rattle.hc_token.specs.Ranged as numbers
+use Rattle.hc_token.specs.Numbers.{front_digits, point_digits, places_digits, point_len, number_of}
+use Rattle.hc_token.specs.Pieces.{piece}
 use Rattle.hc_token.specs.Tokens.{token_at, tokens_from}
 use Rattle.hc_token.proofs.Digits.{digit_in_front}
 use Rattle.hc_token.proofs.Ranges.{number_in_range}
@@ -158,7 +158,7 @@ point_front ds es z some more digits behind =
 
 -- the number that is read
 read_number : (n places : ℕ) (e : in_range n places ≡ true)
-    → number_of n places ≡ (k.Number, says.Number (numbers.decimal n places e))
+    → number_of n places ≡ lex.Number (numbers.decimal n places e)
 read_number n places e =
     let parts = and_parts (nat_le n 9223372036854775807) (nat_le places 18) e in
     sym (number_in_range (numbers.decimal n places e) n places (leb-true n 9223372036854775807 parts.0)
@@ -171,14 +171,14 @@ below_64 n places e =
 
 numeral_read : (n places : ℕ) (e : in_range n places ≡ true) (p : Place) (z : List ℕ)
     → (q : Place) × (tokens_from 0 p (numeral n places (32 ∷ z))
-    ≡ token_at p (k.Number, says.Number (numbers.decimal n places e)) ∷ tokens_from 0 q z)
+    ≡ token_at p (lex.Number (numbers.decimal n places e)) ∷ tokens_from 0 q z)
 numeral_read n zero e p z =
     let small = below_64 n zero e in
     let ds = decimal (n / 10 ^ 0) in
     let is = decimal_is (n / 10 ^ 0) (omega (arith, div-le_self n (10 ^ 0))) in
     let f = whole_front ds z is.some is.digits in (
       _,
-      one_token ds z (k.Number, says.Number (numbers.decimal n zero e)) p is.some f.0
+      one_token ds z (lex.Number (numbers.decimal n zero e)) p is.some f.0
           (f.1 ∙ ap (λ v. Some (number_of v 0)) (both_value n zero small) ∙ ap Some (read_number n zero e)),
     )
 numeral_read n (suc more) e p z =
@@ -195,7 +195,7 @@ numeral_read n (suc more) e p z =
     let long : length text ≡ length ds + (1 + length es) = length-append ds (46 ∷ es) ∙ omega arith in (
       _,
       ap (tokens_from 0 p) one
-          ∙ one_token text z (k.Number, says.Number (numbers.decimal n (suc more) e)) p (omega (arith, long, is.some))
+          ∙ one_token text z (lex.Number (numbers.decimal n (suc more) e)) p (omega (arith, long, is.some))
           (ap (λ x. (piece x).len) (sym same) ∙ f.0 ∙ sym long)
           (ap (λ x. (piece x).lexeme) (sym same) ∙ f.1 ∙ ap₂ (λ v c. Some (number_of v c)) (both_value n (suc more) small) len
           ∙ ap Some (read_number n (suc more) e)),
@@ -206,8 +206,8 @@ pub numbered_read : (digits : ℤ) (places : ℕ) → GoodNumber digits places �
 numbered_read digits places good p z =
     let r = numeral_read good.value places good.fits p z in
     let d = numbers.decimal good.value places good.fits in record {
-      first = token_at p (k.Number, says.Number d);
+      first = token_at p (lex.Number d);
       place = r.0;
-      is = (refl, (d, refl, sym good.is, refl));
+      is = (d, refl, sym good.is, refl);
       all = ap (λ x. tokens_from 0 p (numeral (unsigned_abs x) places (32 ∷ z))) good.is ∙ r.1;
     }

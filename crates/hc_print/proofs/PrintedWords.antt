@@ -8,8 +8,8 @@ use Rattle.std.proofs.lemmas.Bool.Decides.{nat_tests}
 use Rattle.std.proofs.Math.Seq.{take-append_seam}
 use Rattle.hc_frac.specs.declared.place.Place.{Place}
 use Rattle.hc_frac.specs.Word.{word_byte}
-use Rattle.hc_token.specs.declared.kind.Kind.TheVariants as k
-use Rattle.hc_token.specs.declared.token.Content.TheVariants as says
+use Rattle.hc_token.specs.declared.token.Lexeme.{Lexeme}
+use Rattle.hc_token.specs.declared.token.Lexeme.TheVariants as lex
 use Rattle.hc_token.specs.Words as words
 use Rattle.hc_token.specs.Pieces.{is_blank, word_piece, piece}
 use Rattle.hc_token.specs.Tokens.{token_at, tokens_from}
@@ -48,7 +48,7 @@ word_in_front : (b : ℕ) (y : List ℕ) → is_ascii_alphabetic b ≡ true
 unfolding piece
 word_in_front b y h = third (is_blank b) (b == 35) (is_ascii_alphabetic b) _ _ _ _ (not_blank b h) (not_hash b h) h
 
-word_read : (w z : List ℕ) (l : words.Lexeme) → IsReadAs w l
+word_read : (w z : List ℕ) (l : Lexeme) → IsReadAs w l
     → (0 < length w) × ((piece (w ++ 32 ∷ z)).len ≡ length w) × ((piece (w ++ 32 ∷ z)).lexeme ≡ Some l)
 word_read [] z l good = absurd (false≢true good.letter_first)
 word_read (b ∷ w) z l good =
@@ -60,21 +60,21 @@ word_read (b ∷ w) z l good =
 
 pub named_read : (w : Word) → GoodName w → (p : Place) (z : List ℕ) → Reads (named w) z (tokens_from 0 p (token_text (named w) z))
 named_read w good p z =
-    let r = word_read w z (k.Name, says.Name w) good in record {
-      first = token_at p (k.Name, says.Name w);
+    let r = word_read w z (lex.Name w) good in record {
+      first = token_at p (lex.Name w);
       place = _;
-      is = (refl, refl);
-      all = one_token w z (k.Name, says.Name w) p r.0 r.1 r.2;
+      is = refl;
+      all = one_token w z (lex.Name w) p r.0 r.1 r.2;
     }
 
 pub rated_read : (w : Word) → GoodRate w → (p : Place) (z : List ℕ) → Reads (rated w) z (tokens_from 0 p (token_text (rated w) z))
 rated_read w good p z =
     let x = w ++ codes "_dot" in
-    let r = word_read x z (k.Rate, says.Name w) good in
+    let r = word_read x z (lex.Rate w) good in
     let same : token_text (rated w) z ≡ x ++ 32 ∷ z =
     append_assoc w (codes "_dot ") z ∙ sym (append_assoc w (codes "_dot") (32 ∷ z)) in record {
-      first = token_at p (k.Rate, says.Name w);
+      first = token_at p (lex.Rate w);
       place = _;
-      is = (refl, refl);
-      all = ap (tokens_from 0 p) same ∙ one_token x z (k.Rate, says.Name w) p r.0 r.1 r.2;
+      is = refl;
+      all = ap (tokens_from 0 p) same ∙ one_token x z (lex.Rate w) p r.0 r.1 r.2;
     }

@@ -1,7 +1,8 @@
 -- The canonical spelling of each condition is read as that condition.
-use Rattle.std.proofs.Common.{◌≡◌, ℕ, ◌+◌, ◌-◌, max, List, ◌∷◌, Some, None, refl, ap, ap₂, sym, ◌∙◌, arith}
+use Rattle.std.proofs.Common.{◌≡◌, ℕ, ◌+◌, ◌-◌, max, List, ◌∷◌, Some, refl, ap, ap₂, sym, ◌∙◌, arith}
 use Rattle.hc_grammar.specs.Texts as texts
 use Rattle.hc_grammar.specs.Texts.{Read, Did}
+use Rattle.hc_token.specs.declared.fixed.Fixed.TheVariants as fix
 use Rattle.hc_token.specs.declared.kind.Kind.TheVariants as k
 use Rattle.hc_token.specs.declared.token.Token.{Token}
 use Rattle.hc_ast.specs.declared.role.Role.TheVariants as r
@@ -9,7 +10,7 @@ use Rattle.hc_ast.specs.declared.role.Mark.TheVariants as m
 use Rattle.hc_ast.specs.declared.expr.Comparison.{Comparison}
 use Rattle.hc_ast.specs.declared.expr.Comparison.TheVariants as how_of
 use Rattle.hc_ast.specs.Bare.{BareExpr, BareCond, always, never, compare, negation, both, either}
-use Rattle.hc_ast.specs.Leaves.{Spelled, OfKind, comparison}
+use Rattle.hc_ast.specs.Leaves.{Spelled, OfFixed, comparison}
 use Rattle.hc_ast.specs.Exprs.{expr}
 use Rattle.hc_ast.specs.Conds as g
 use Rattle.hc_ast.specs.Conds.{Cond, Ors, Both, Ands, One}
@@ -96,10 +97,10 @@ not_text c reads w ts h = let p = reads w h.others h.rest in record {
 -- in square brackets
 in_square : (c : BareCond) (deep many : ℕ) (inside : Lexemes → Lexemes)
     → ((w : Lexemes) (ts : List Token) → Says (inside w) ts → Phrase g.cond cond_bare (Counted deep many) c w ts)
-    → (w : Lexemes) (ts : List Token) → Says (fixed k.OpenSquare ∷ inside (fixed k.CloseSquare ∷ w)) ts
+    → (w : Lexemes) (ts : List Token) → Says (fixed fix.OpenSquare ∷ inside (fixed fix.CloseSquare ∷ w)) ts
     → Phrase g.one one_bare (Counted (1 + deep) many) c w ts
 in_square c deep many inside reads w ts h =
-    let p = reads (fixed k.CloseSquare ∷ w) h.others h.rest in record {
+    let p = reads (fixed fix.CloseSquare ∷ w) h.others h.rest in record {
       phrase = g.brackets (h.first, h.is) p.phrase (p.rest.first, p.rest.is);
       others = p.rest.others;
       rest = p.rest.rest;
@@ -115,21 +116,13 @@ in_square c deep many inside reads w ts h =
     }
 
 -- the sign of a comparison is read as that comparison
-comparison_is : (how : Comparison) → comparison (canon.comparison_sign how) ≡ Some how
+comparison_is : (how : Comparison) → comparison (k.Fixed (canon.comparison_sign how)) ≡ Some how
 comparison_is how_of.Less = refl
 comparison_is how_of.AtMost = refl
 comparison_is how_of.Equal = refl
 comparison_is how_of.NotEqual = refl
 comparison_is how_of.AtLeast = refl
 comparison_is how_of.Greater = refl
-
-comparison_fits : (how : Comparison) → unfit (canon.comparison_sign how) ≡ None
-comparison_fits how_of.Less = refl
-comparison_fits how_of.AtMost = refl
-comparison_fits how_of.Equal = refl
-comparison_fits how_of.NotEqual = refl
-comparison_fits how_of.AtLeast = refl
-comparison_fits how_of.Greater = refl
 
 compare_text : (how : Comparison) (x y : BareExpr) → Reads g.one one_bare at.Tight (compare how x y)
 compare_text how x y w ts h =
@@ -143,7 +136,7 @@ compare_text how x y w ts h =
       bare = ap₂ (compare how) p.bare q.bare;
       goes = λ v d n i j u.
           p.goes (Read p.rest.first r.Operator ∷ expr q.phrase (Did m.Compare ∷ v)) d n (omega arith) (omega arith) (
-            ap unfit p.rest.is ∙ comparison_fits how,
+            ap unfit p.rest.is,
             omega arith,
             q.goes (Did m.Compare ∷ v) d (n + size x + 1) (omega arith) (omega arith)
                 (walks_at IsFit v d d (n + (1 + (size x + size y))) (n + size x + 1 + size y) refl (omega arith) u),
@@ -151,37 +144,37 @@ compare_text how x y w ts h =
     }
 
 -- one part more at the end
-abbrev ors_end : Ors → OfKind k.BarBar → Both → Ors
+abbrev ors_end : Ors → OfFixed fix.BarBar → Both → Ors
 ors_end g.no_more t b = g.or_both t b g.no_more
 ors_end (g.or_both t0 b0 os) t b = g.or_both t0 b0 (ors_end os t b)
 
-abbrev or_more : Cond → OfKind k.BarBar → Both → Cond
+abbrev or_more : Cond → OfFixed fix.BarBar → Both → Cond
 or_more (g.either b0 os) t b = g.either b0 (ors_end os t b)
 
-spelled_ors : (os : Ors) (t : OfKind k.BarBar) (b : Both) (v : Spelled)
+spelled_ors : (os : Ors) (t : OfFixed fix.BarBar) (b : Both) (v : Spelled)
     → g.ors (ors_end os t b) v ≡ g.ors os (Read t.0 r.Operator ∷ g.both_of b (Did m.Or ∷ v))
 spelled_ors g.no_more t b v = refl
 spelled_ors (g.or_both t0 b0 os) t b v =
     ap (λ u. Read t0.0 r.Operator ∷ g.both_of b0 (Did m.Or ∷ u)) (spelled_ors os t b v)
 
-spelled_or : (x : Cond) (t : OfKind k.BarBar) (b : Both) (v : Spelled)
+spelled_or : (x : Cond) (t : OfFixed fix.BarBar) (b : Both) (v : Spelled)
     → g.cond (or_more x t b) v ≡ g.cond x (Read t.0 r.Operator ∷ g.both_of b (Did m.Or ∷ v))
 spelled_or (g.either b0 os) t b v = ap (g.both_of b0) (spelled_ors os t b v)
 
-bare_ors : (os : Ors) (t : OfKind k.BarBar) (b : Both) (c : BareCond)
+bare_ors : (os : Ors) (t : OfFixed fix.BarBar) (b : Both) (c : BareCond)
     → ors_bare (ors_end os t b) c ≡ either (ors_bare os c) (both_bare b)
 bare_ors g.no_more t b c = refl
 bare_ors (g.or_both t0 b0 os) t b c = bare_ors os t b (either c (both_bare b0))
 
-bare_or : (x : Cond) (t : OfKind k.BarBar) (b : Both) → cond_bare (or_more x t b) ≡ either (cond_bare x) (both_bare b)
+bare_or : (x : Cond) (t : OfFixed fix.BarBar) (b : Both) → cond_bare (or_more x t b) ≡ either (cond_bare x) (both_bare b)
 bare_or (g.either b0 os) t b = bare_ors os t b (both_bare b0)
 
 or_text : (b c : BareCond) → Reads g.cond cond_bare at.Alone b → Reads g.both_of both_bare at.Inner c
     → Reads g.cond cond_bare at.Alone (either b c)
 or_text b c first second w ts h =
-    let p = first (fixed k.BarBar ∷ canon.cond c at.Inner w) ts h in
+    let p = first (fixed fix.BarBar ∷ canon.cond c at.Inner w) ts h in
     let q = second w p.rest.others p.rest.rest in
-    let t : OfKind k.BarBar = (p.rest.first, p.rest.is) in record {
+    let t : OfFixed fix.BarBar = (p.rest.first, p.rest.is) in record {
       phrase = or_more p.phrase t q.phrase;
       others = q.others;
       rest = q.rest;
@@ -198,37 +191,37 @@ or_text b c first second w ts h =
           ));
     }
 
-abbrev ands_end : Ands → OfKind k.AndAnd → One → Ands
+abbrev ands_end : Ands → OfFixed fix.AndAnd → One → Ands
 ands_end g.no_other t o = g.and_one t o g.no_other
 ands_end (g.and_one t0 o0 bs) t o = g.and_one t0 o0 (ands_end bs t o)
 
-abbrev and_more : Both → OfKind k.AndAnd → One → Both
+abbrev and_more : Both → OfFixed fix.AndAnd → One → Both
 and_more (g.both o0 bs) t o = g.both o0 (ands_end bs t o)
 
-spelled_ands : (bs : Ands) (t : OfKind k.AndAnd) (o : One) (v : Spelled)
+spelled_ands : (bs : Ands) (t : OfFixed fix.AndAnd) (o : One) (v : Spelled)
     → g.ands (ands_end bs t o) v ≡ g.ands bs (Read t.0 r.Operator ∷ g.one o (Did m.And ∷ v))
 spelled_ands g.no_other t o v = refl
 spelled_ands (g.and_one t0 o0 bs) t o v =
     ap (λ u. Read t0.0 r.Operator ∷ g.one o0 (Did m.And ∷ u)) (spelled_ands bs t o v)
 
-spelled_and : (x : Both) (t : OfKind k.AndAnd) (o : One) (v : Spelled)
+spelled_and : (x : Both) (t : OfFixed fix.AndAnd) (o : One) (v : Spelled)
     → g.both_of (and_more x t o) v ≡ g.both_of x (Read t.0 r.Operator ∷ g.one o (Did m.And ∷ v))
 spelled_and (g.both o0 bs) t o v = ap (g.one o0) (spelled_ands bs t o v)
 
-bare_ands : (bs : Ands) (t : OfKind k.AndAnd) (o : One) (c : BareCond)
+bare_ands : (bs : Ands) (t : OfFixed fix.AndAnd) (o : One) (c : BareCond)
     → ands_bare (ands_end bs t o) c ≡ both (ands_bare bs c) (one_bare o)
 bare_ands g.no_other t o c = refl
 bare_ands (g.and_one t0 o0 bs) t o c = bare_ands bs t o (both c (one_bare o0))
 
-bare_and : (x : Both) (t : OfKind k.AndAnd) (o : One) → both_bare (and_more x t o) ≡ both (both_bare x) (one_bare o)
+bare_and : (x : Both) (t : OfFixed fix.AndAnd) (o : One) → both_bare (and_more x t o) ≡ both (both_bare x) (one_bare o)
 bare_and (g.both o0 bs) t o = bare_ands bs t o (one_bare o0)
 
 and_text : (b c : BareCond) → Reads g.both_of both_bare at.Inner b → Reads g.one one_bare at.Tight c
     → Reads g.both_of both_bare at.Inner (both b c)
 and_text b c first second w ts h =
-    let p = first (fixed k.AndAnd ∷ canon.cond c at.Tight w) ts h in
+    let p = first (fixed fix.AndAnd ∷ canon.cond c at.Tight w) ts h in
     let q = second w p.rest.others p.rest.rest in
-    let t : OfKind k.AndAnd = (p.rest.first, p.rest.is) in record {
+    let t : OfFixed fix.AndAnd = (p.rest.first, p.rest.is) in record {
       phrase = and_more p.phrase t q.phrase;
       others = q.others;
       rest = q.rest;
@@ -256,7 +249,7 @@ both_levels b c f s =
     let t : BareCond = both b c in
     let deep : ℕ = max (cond_peak b at.Inner) (cond_peak c at.Tight) in
     let many : ℕ = 1 + (cond_size b + cond_size c) in
-    let inside = λ (w : Lexemes). canon.cond b at.Inner (fixed k.AndAnd ∷ canon.cond c at.Tight w) in
+    let inside = λ (w : Lexemes). canon.cond b at.Inner (fixed fix.AndAnd ∷ canon.cond c at.Tight w) in
     let text = and_text b c f.inner s.tight in
     let alone = λ (w : Lexemes) (ts : List Token) (h : Says (inside w) ts). as_cond t deep many w ts (text w ts h) in record {
       alone = alone;
@@ -269,7 +262,7 @@ either_levels b c f s =
     let t : BareCond = either b c in
     let deep : ℕ = max (cond_peak b at.Alone) (cond_peak c at.Inner) in
     let many : ℕ = 1 + (cond_size b + cond_size c) in
-    let inside = λ (w : Lexemes). canon.cond b at.Alone (fixed k.BarBar ∷ canon.cond c at.Inner w) in
+    let inside = λ (w : Lexemes). canon.cond b at.Alone (fixed fix.BarBar ∷ canon.cond c at.Inner w) in
     let text = or_text b c f.alone s.inner in record {
       alone = text;
       inner = λ w ts h. as_both t (1 + deep) many w ts (in_square t deep many inside text w ts h);

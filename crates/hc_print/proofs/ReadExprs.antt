@@ -1,8 +1,9 @@
 -- The canonical spelling of each expression is read as that expression.
-use Rattle.std.proofs.Common.{◌≡◌, ℕ, ℤ, ◌+◌, ◌-◌, max, List, ◌∷◌, Some, None, refl, ap, ap₂, sym, ◌∙◌, arith}
+use Rattle.std.proofs.Common.{◌≡◌, ℕ, ℤ, ◌+◌, ◌-◌, max, List, ◌∷◌, Some, refl, ap, ap₂, sym, ◌∙◌, arith}
 use Rattle.hc_grammar.specs.Texts as texts
 use Rattle.hc_grammar.specs.Texts.{Read, Did}
-use Rattle.hc_token.specs.declared.kind.Kind.{Kind}
+use Rattle.hc_token.specs.declared.fixed.Fixed.{Fixed}
+use Rattle.hc_token.specs.declared.fixed.Fixed.TheVariants as fix
 use Rattle.hc_token.specs.declared.kind.Kind.TheVariants as k
 use Rattle.hc_token.specs.declared.token.Token.{Token}
 use Rattle.hc_ast.specs.declared.role.Role.TheVariants as r
@@ -10,7 +11,7 @@ use Rattle.hc_ast.specs.declared.role.Mark.TheVariants as m
 use Rattle.hc_ast.specs.declared.expr.Op.{Op}
 use Rattle.hc_ast.specs.declared.expr.Op.TheVariants as sign
 use Rattle.hc_ast.specs.Bare.{BareExpr, number, name, neg, binary, Word}
-use Rattle.hc_ast.specs.Leaves.{Spelled, OfSign, sum_op, product_op, name_in, number_in}
+use Rattle.hc_ast.specs.Leaves.{Spelled, OfSign, sum_op, product_op}
 use Rattle.hc_ast.specs.Exprs as g
 use Rattle.hc_ast.specs.Exprs.{Expr, Sums, Term, Products, Factor}
 use Rattle.hc_ast.specs.Counts.{unfit}
@@ -22,7 +23,7 @@ use Rattle.hc_print.proofs.BareExprs.{expr_bare, sums_bare, term_bare, products_
 use Rattle.hc_print.proofs.Peaks.{peak, size}
 use Rattle.hc_print.proofs.Saying.{Says}
 use Rattle.hc_print.proofs.Walking.{walks_at}
-use Rattle.hc_print.proofs.Phrases.{IsFit, Phrase, Counted}
+use Rattle.hc_print.proofs.Phrases.{flaw_of, IsFit, Phrase, Counted}
 
 -- a phrase for b where it stands at this level
 abbrev pub Reads : {X : Type 0} → (X → Spelled → Spelled) → (X → BareExpr) → Level → BareExpr → Type 0
@@ -59,22 +60,22 @@ as_expr b deep many w ts p = record {
 
 number_text : (digits : ℤ) (places : ℕ) → Reads g.factor factor_bare at.Tight (number digits places)
 number_text digits places w ts h = record {
-  phrase = g.number (h.first, h.is.0);
+  phrase = g.number (h.first, h.is.0, h.is.1);
   others = h.others;
   rest = h.rest;
   tokens = λ v e. ap (λ us. h.first ∷ us) e ∙ sym h.all;
-  bare = let d = ap number_in h.is.1.1 in ap₂ number (ap (λ x. x.digits) d ∙ h.is.1.2) (ap (λ x. x.places) d ∙ h.is.1.3);
-  goes = λ v d n i j q. (ap unfit h.is.0, omega arith, q);
+  bare = ap₂ number h.is.2 h.is.3;
+  goes = λ v d n i j q. (ap flaw_of h.is.1, omega arith, q);
 }
 
 name_text : (x : Word) → Reads g.factor factor_bare at.Tight (name x)
 name_text x w ts h = record {
-  phrase = g.variable (h.first, h.is.0);
+  phrase = g.variable (h.first, x, h.is);
   others = h.others;
   rest = h.rest;
   tokens = λ v e. ap (λ us. h.first ∷ us) e ∙ sym h.all;
-  bare = ap name (ap name_in h.is.1);
-  goes = λ v d n i j q. (ap unfit h.is.0, omega arith, q);
+  bare = refl;
+  goes = λ v d n i j q. (ap flaw_of h.is, omega arith, q);
 }
 
 minus_text : (x : BareExpr) → Reads g.factor factor_bare at.Tight x → Reads g.factor factor_bare at.Tight (neg x)
@@ -95,10 +96,10 @@ minus_text x reads w ts h = let p = reads w h.others h.rest in record {
 -- in round brackets
 in_round : (b : BareExpr) (deep many : ℕ) (inside : Lexemes → Lexemes)
     → ((w : Lexemes) (ts : List Token) → Says (inside w) ts → Phrase g.expr expr_bare (Counted deep many) b w ts)
-    → (w : Lexemes) (ts : List Token) → Says (fixed k.OpenRound ∷ inside (fixed k.CloseRound ∷ w)) ts
+    → (w : Lexemes) (ts : List Token) → Says (fixed fix.OpenRound ∷ inside (fixed fix.CloseRound ∷ w)) ts
     → Phrase g.factor factor_bare (Counted (1 + deep) many) b w ts
 in_round b deep many inside reads w ts h =
-    let p = reads (fixed k.CloseRound ∷ w) h.others h.rest in record {
+    let p = reads (fixed fix.CloseRound ∷ w) h.others h.rest in record {
       phrase = g.brackets (h.first, h.is) p.phrase (p.rest.first, p.rest.is);
       others = p.rest.others;
       rest = p.rest.rest;
@@ -140,12 +141,12 @@ bare_more : (x : Expr) (s : OfSign sum_op) (t : Term)
     → expr_bare (one_more x s t) ≡ binary s.1 (expr_bare x) (term_bare t)
 bare_more (g.sum t0 ss) s t = bare_end ss s t (term_bare t0)
 
-sum_text : (op : Op) (kind : Kind) → sum_op kind ≡ Some op → unfit kind ≡ None → (x y : BareExpr)
+sum_text : (op : Op) (one : Fixed) → sum_op (k.Fixed one) ≡ Some op → (x y : BareExpr)
     → Reads g.expr expr_bare at.Alone x → Reads g.term term_bare at.Inner y → (w : Lexemes) (ts : List Token)
-    → Says (canon.expr x at.Alone (fixed kind ∷ canon.expr y at.Inner w)) ts
+    → Says (canon.expr x at.Alone (fixed one ∷ canon.expr y at.Inner w)) ts
     → Phrase g.expr expr_bare (Counted (max (peak x at.Alone) (peak y at.Inner)) (1 + (size x + size y))) (binary op x y) w ts
-sum_text op kind is fit x y first second w ts h =
-    let p = first (fixed kind ∷ canon.expr y at.Inner w) ts h in
+sum_text op one is x y first second w ts h =
+    let p = first (fixed one ∷ canon.expr y at.Inner w) ts h in
     let q = second w p.rest.others p.rest.rest in
     let s : OfSign sum_op = (p.rest.first, op, ap sum_op p.rest.is ∙ is) in record {
       phrase = one_more p.phrase s q.phrase;
@@ -157,7 +158,7 @@ sum_text op kind is fit x y first second w ts h =
       bare = bare_more p.phrase s q.phrase ∙ ap₂ (binary op) p.bare q.bare;
       goes = λ v d n i j u. rw (spelled_more p.phrase s q.phrase v)
           (p.goes (Read p.rest.first r.Operator ∷ g.term q.phrase (Did m.Binary ∷ v)) d n (omega arith) (omega arith) (
-            ap unfit p.rest.is ∙ fit,
+            ap unfit p.rest.is,
             omega arith,
             q.goes (Did m.Binary ∷ v) d (n + size x + 1) (omega arith) (omega arith)
                 (walks_at IsFit v d d (n + (1 + (size x + size y))) (n + size x + 1 + size y) refl (omega arith) u),
@@ -191,12 +192,12 @@ product_more : (x : Term) (s : OfSign product_op) (f : Factor)
     → term_bare (factor_more x s f) ≡ binary s.1 (term_bare x) (factor_bare f)
 product_more (g.product f0 ps) s f = product_end ps s f (factor_bare f0)
 
-product_text : (op : Op) (kind : Kind) → product_op kind ≡ Some op → unfit kind ≡ None → (x y : BareExpr)
+product_text : (op : Op) (one : Fixed) → product_op (k.Fixed one) ≡ Some op → (x y : BareExpr)
     → Reads g.term term_bare at.Inner x → Reads g.factor factor_bare at.Tight y → (w : Lexemes) (ts : List Token)
-    → Says (canon.expr x at.Inner (fixed kind ∷ canon.expr y at.Tight w)) ts
+    → Says (canon.expr x at.Inner (fixed one ∷ canon.expr y at.Tight w)) ts
     → Phrase g.term term_bare (Counted (max (peak x at.Inner) (peak y at.Tight)) (1 + (size x + size y))) (binary op x y) w ts
-product_text op kind is fit x y first second w ts h =
-    let p = first (fixed kind ∷ canon.expr y at.Tight w) ts h in
+product_text op one is x y first second w ts h =
+    let p = first (fixed one ∷ canon.expr y at.Tight w) ts h in
     let q = second w p.rest.others p.rest.rest in
     let s : OfSign product_op = (p.rest.first, op, ap product_op p.rest.is ∙ is) in record {
       phrase = factor_more p.phrase s q.phrase;
@@ -208,7 +209,7 @@ product_text op kind is fit x y first second w ts h =
       bare = product_more p.phrase s q.phrase ∙ ap₂ (binary op) p.bare q.bare;
       goes = λ v d n i j u. rw (factors_more p.phrase s q.phrase v)
           (p.goes (Read p.rest.first r.Operator ∷ g.factor q.phrase (Did m.Binary ∷ v)) d n (omega arith) (omega arith) (
-            ap unfit p.rest.is ∙ fit,
+            ap unfit p.rest.is,
             omega arith,
             q.goes (Did m.Binary ∷ v) d (n + size x + 1) (omega arith) (omega arith)
                 (walks_at IsFit v d d (n + (1 + (size x + size y))) (n + size x + 1 + size y) refl (omega arith) u),
@@ -244,8 +245,8 @@ add_levels x y a b =
     let t : BareExpr = binary sign.Add x y in
     let deep : ℕ = max (peak x at.Alone) (peak y at.Inner) in
     let many : ℕ = 1 + (size x + size y) in
-    let inside = λ (w : Lexemes). canon.expr x at.Alone (fixed k.Plus ∷ canon.expr y at.Inner w) in
-    let text = sum_text sign.Add k.Plus refl refl x y a.alone b.inner in record {
+    let inside = λ (w : Lexemes). canon.expr x at.Alone (fixed fix.Plus ∷ canon.expr y at.Inner w) in
+    let text = sum_text sign.Add fix.Plus refl x y a.alone b.inner in record {
       alone = text;
       inner = λ w ts h. as_term t (1 + deep) many w ts (in_round t deep many inside text w ts h);
       tight = in_round t deep many inside text;
@@ -256,8 +257,8 @@ sub_levels x y a b =
     let t : BareExpr = binary sign.Sub x y in
     let deep : ℕ = max (peak x at.Alone) (peak y at.Inner) in
     let many : ℕ = 1 + (size x + size y) in
-    let inside = λ (w : Lexemes). canon.expr x at.Alone (fixed k.Minus ∷ canon.expr y at.Inner w) in
-    let text = sum_text sign.Sub k.Minus refl refl x y a.alone b.inner in record {
+    let inside = λ (w : Lexemes). canon.expr x at.Alone (fixed fix.Minus ∷ canon.expr y at.Inner w) in
+    let text = sum_text sign.Sub fix.Minus refl x y a.alone b.inner in record {
       alone = text;
       inner = λ w ts h. as_term t (1 + deep) many w ts (in_round t deep many inside text w ts h);
       tight = in_round t deep many inside text;
@@ -268,8 +269,8 @@ mul_levels x y a b =
     let t : BareExpr = binary sign.Mul x y in
     let deep : ℕ = max (peak x at.Inner) (peak y at.Tight) in
     let many : ℕ = 1 + (size x + size y) in
-    let inside = λ (w : Lexemes). canon.expr x at.Inner (fixed k.Star ∷ canon.expr y at.Tight w) in
-    let text = product_text sign.Mul k.Star refl refl x y a.inner b.tight in
+    let inside = λ (w : Lexemes). canon.expr x at.Inner (fixed fix.Star ∷ canon.expr y at.Tight w) in
+    let text = product_text sign.Mul fix.Star refl x y a.inner b.tight in
     let alone = λ (w : Lexemes) (ts : List Token) (h : Says (inside w) ts). as_expr t deep many w ts (text w ts h) in record {
       alone = alone;
       inner = text;
@@ -281,8 +282,8 @@ div_levels x y a b =
     let t : BareExpr = binary sign.Div x y in
     let deep : ℕ = max (peak x at.Inner) (peak y at.Tight) in
     let many : ℕ = 1 + (size x + size y) in
-    let inside = λ (w : Lexemes). canon.expr x at.Inner (fixed k.Slash ∷ canon.expr y at.Tight w) in
-    let text = product_text sign.Div k.Slash refl refl x y a.inner b.tight in
+    let inside = λ (w : Lexemes). canon.expr x at.Inner (fixed fix.Slash ∷ canon.expr y at.Tight w) in
+    let text = product_text sign.Div fix.Slash refl x y a.inner b.tight in
     let alone = λ (w : Lexemes) (ts : List Token) (h : Says (inside w) ts). as_expr t deep many w ts (text w ts h) in record {
       alone = alone;
       inner = text;

@@ -1,6 +1,7 @@
 -- The canonical spelling of each tree that a source may have is read as that tree.
-use Rattle.std.proofs.Common.{◌≡◌, List, [], ◌∷◌, Some, None, refl, ap, ap₂, ◌∙◌}
+use Rattle.std.proofs.Common.{◌≡◌, List, [], ◌∷◌, Some, refl, ap, ap₂, ◌∙◌}
 use Rattle.hc_grammar.specs.Texts.{Read, Did}
+use Rattle.hc_token.specs.declared.fixed.Fixed.TheVariants as fix
 use Rattle.hc_token.specs.declared.kind.Kind.TheVariants as k
 use Rattle.hc_token.specs.declared.token.Token.{Token}
 use Rattle.hc_ast.specs.declared.role.Role.TheVariants as r
@@ -8,7 +9,7 @@ use Rattle.hc_ast.specs.declared.role.Mark.TheVariants as m
 use Rattle.hc_ast.specs.declared.tree.ParamKind.{ParamKind}
 use Rattle.hc_ast.specs.declared.tree.ParamKind.TheVariants as stands_for
 use Rattle.hc_ast.specs.Bare.{Word, BareExpr, BareStmts, BareParam, BareModule, BareBody, inline, call, BareProcess, BareTree}
-use Rattle.hc_ast.specs.Leaves.{Spelled, name_in}
+use Rattle.hc_ast.specs.Leaves.{Spelled}
 use Rattle.hc_ast.specs.StmtRoles.{seq}
 use Rattle.hc_ast.specs.Sources as g
 use Rattle.hc_ast.specs.Sources.{param_kind}
@@ -18,29 +19,24 @@ use Rattle.hc_print.specs.Lexemes.{Lexemes, fixed}
 use Rattle.hc_print.specs.CanonStmts as canon_stmt
 use Rattle.hc_print.specs.Canonical as canon
 use Rattle.hc_print.proofs.BareSources.{param_bare, more_params_bare, params_bare, module_bare, more_arguments_bare, arguments_bare, process_bare, processes_bare, in_front, source_bare}
-use Rattle.hc_print.proofs.BareStmts.{seq_bare}
 use Rattle.hc_print.proofs.KeptSources.{OkModule, OkModules, OkArguments, OkBody, OkProcess, OkProcesses, OkSystem}
 use Rattle.hc_print.proofs.Saying.{Says}
-use Rattle.hc_print.proofs.Phrases.{Phrase}
+use Rattle.hc_print.proofs.Phrases.{flaw_of, Phrase}
 use Rattle.hc_print.proofs.ReadStmts.{Free, front, expr_read, seq_read}
 
 -- the word before a parameter is read as its kind
-param_is : (kind : ParamKind) → param_kind (canon.param_sign kind) ≡ Some kind
+param_is : (kind : ParamKind) → param_kind (k.Fixed (canon.param_sign kind)) ≡ Some kind
 param_is stands_for.Channel = refl
 param_is stands_for.Value = refl
 
-param_fits : (kind : ParamKind) → unfit (canon.param_sign kind) ≡ None
-param_fits stands_for.Channel = refl
-param_fits stands_for.Value = refl
-
 param_read : (x : BareParam) (w : Lexemes) (ts : List Token) → Says (canon.param x w) ts → Phrase param param_bare (Free 0) x w ts
 param_read x w ts h = record {
-  phrase = g.param (h.first, x.kind, ap param_kind h.is ∙ param_is x.kind) (h.rest.first, h.rest.is.0);
+  phrase = g.param (h.first, x.kind, ap param_kind h.is ∙ param_is x.kind) (h.rest.first, x.name, h.rest.is);
   others = h.rest.others;
   rest = h.rest.rest;
   tokens = λ v e. front h (front h.rest e);
-  bare = ap (λ (y : Word). let one : BareParam = record { kind = x.kind; name = y } in one) (ap name_in h.rest.is.1);
-  goes = λ v f n. (ap unfit h.is ∙ param_fits x.kind, tt, (ap unfit h.rest.is.0, tt, f n));
+  bare = refl;
+  goes = λ v f n. (ap unfit h.is, tt, (ap flaw_of h.rest.is, tt, f n));
 }
 
 more_params_read : (xs : List BareParam) (w : Lexemes) (ts : List Token) → Says (canon.more_params xs w) ts
@@ -90,15 +86,15 @@ module_read : (x : BareModule) → OkModule x → (w : Lexemes) (ts : List Token
 module_read x ok w ts h =
     let name = h.rest in
     let round = name.rest in
-    let p = params_read x.params (fixed k.CloseRound ∷ fixed k.Colon ∷ fixed k.Begin
-    ∷ canon_stmt.stmts x.body (fixed k.EndBody ∷ fixed k.EndModule ∷ w)) round.others round.rest in
+    let p = params_read x.params (fixed fix.CloseRound ∷ fixed fix.Colon ∷ fixed fix.Begin
+    ∷ canon_stmt.stmts x.body (fixed fix.EndBody ∷ fixed fix.EndModule ∷ w)) round.others round.rest in
     let close = p.rest in
     let colon = close.rest in
     let begin = colon.rest in
-    let q = seq_read x.body 0 ok.2 (fixed k.EndBody ∷ fixed k.EndModule ∷ w) begin.others begin.rest in
+    let q = seq_read x.body 0 ok.2 (fixed fix.EndBody ∷ fixed fix.EndModule ∷ w) begin.others begin.rest in
     let body_end = q.rest in
     let module_end = body_end.rest in record {
-      phrase = g.module_of (h.first, h.is) (name.first, name.is.0) (round.first, round.is) p.phrase (close.first, close.is)
+      phrase = g.module_of (h.first, h.is) (name.first, x.name, name.is) (round.first, round.is) p.phrase (close.first, close.is)
           (colon.first, colon.is) (begin.first, begin.is) q.phrase (body_end.first, body_end.is) (module_end.first, module_end.is);
       others = module_end.others;
       rest = module_end.rest;
@@ -107,16 +103,14 @@ module_read x ok w ts h =
           front h (front name (front round (p.tokens
           (Read close.first r.Plain ∷ Read colon.first r.Plain ∷ Read begin.first r.Plain ∷ seq q.phrase last)
           (front close (front colon (front begin (q.tokens last (front body_end (front module_end e)))))))));
-      bare = ap (λ (y : Word). let one : BareModule = record { name = y; params = params_bare p.phrase; body = seq_bare q.phrase } in one)
-          (ap name_in name.is.1)
-          ∙ ap₂ (λ (ps : List BareParam) (ss : BareStmts).
+      bare = ap₂ (λ (ps : List BareParam) (ss : BareStmts).
           let one : BareModule = record { name = x.name; params = ps; body = ss } in one) p.bare q.bare;
       goes = λ v f n.
           let last = Read body_end.first r.Plain ∷ Read module_end.first r.Plain ∷ Did m.Module ∷ v in (
             ap unfit h.is,
             tt,
             (
-              ap unfit name.is.0,
+              ap flaw_of name.is,
               tt,
               (
                 ap unfit round.is,
@@ -194,15 +188,15 @@ body_read : (x : Word) (y : BareBody) → OkBody y → (w : Lexemes) (ts : List 
     → Says (canon.process (as_process x y) w) ts → Phrase process process_bare (Free 0) (as_process x y) w ts
 body_read x (inline ss) ok w ts h =
     let round = h.rest.rest in
-    let p = seq_read ss 0 ok (fixed k.CloseRound ∷ w) round.others round.rest in record {
-      phrase = g.inline (h.first, h.is.0) (h.rest.first, h.rest.is) (round.first, round.is) p.phrase (p.rest.first, p.rest.is);
+    let p = seq_read ss 0 ok (fixed fix.CloseRound ∷ w) round.others round.rest in record {
+      phrase = g.inline (h.first, x, h.is) (h.rest.first, h.rest.is) (round.first, round.is) p.phrase (p.rest.first, p.rest.is);
       others = p.rest.others;
       rest = p.rest.rest;
       tokens = λ v e. front h (front h.rest (front round
           (p.tokens (Read p.rest.first r.Plain ∷ Did m.Inline ∷ v) (front p.rest e))));
-      bare = ap₂ (λ x ss. as_process x (inline ss)) (ap name_in h.is.1) p.bare;
+      bare = ap (λ ss. as_process x (inline ss)) p.bare;
       goes = λ v f n. (
-        ap unfit h.is.0,
+        ap flaw_of h.is,
         tt,
         (
           ap unfit h.rest.is,
@@ -218,23 +212,22 @@ body_read x (inline ss) ok w ts h =
 body_read x (call y es) ok w ts h =
     let name = h.rest.rest in
     let round = name.rest in
-    let p = arguments_read es ok.1 (fixed k.CloseRound ∷ w) round.others round.rest in record {
-      phrase = g.call (h.first, h.is.0) (h.rest.first, h.rest.is) (name.first, name.is.0) (round.first, round.is) p.phrase
+    let p = arguments_read es ok.1 (fixed fix.CloseRound ∷ w) round.others round.rest in record {
+      phrase = g.call (h.first, x, h.is) (h.rest.first, h.rest.is) (name.first, y, name.is) (round.first, round.is) p.phrase
           (p.rest.first, p.rest.is);
       others = p.rest.others;
       rest = p.rest.rest;
       tokens = λ v e. front h (front h.rest (front name (front round
           (p.tokens (Read p.rest.first r.Plain ∷ Did m.Call ∷ v) (front p.rest e)))));
-      bare = ap₂ (λ x y. as_process x (call y (arguments_bare p.phrase))) (ap name_in h.is.1) (ap name_in name.is.1)
-          ∙ ap (λ es. as_process x (call y es)) p.bare;
+      bare = ap (λ es. as_process x (call y es)) p.bare;
       goes = λ v f n. (
-        ap unfit h.is.0,
+        ap flaw_of h.is,
         tt,
         (
           ap unfit h.rest.is,
           tt,
           (
-            ap unfit name.is.0,
+            ap flaw_of name.is,
             tt,
             (
               ap unfit round.is,
@@ -275,12 +268,12 @@ abbrev as_tree : List BareModule → List BareProcess → BareTree
 as_tree ms ps = record { modules = ms; processes = ps }
 
 pub source_read : (ms : List BareModule) (ps : List BareProcess) → OkModules ms → OkSystem ps → (w : Lexemes) (ts : List Token)
-    → Says (canon.modules ms (fixed k.System ∷ canon.processes ps (fixed k.EndSystem ∷ w))) ts
+    → Says (canon.modules ms (fixed fix.System ∷ canon.processes ps (fixed fix.EndSystem ∷ w))) ts
     → Phrase source source_bare (Free 0) (as_tree ms ps) w ts
 source_read [] [] ok some w ts h = absurd some
 source_read [] (x ∷ xs) ok some w ts h =
-    let p = process_read x some.0 (canon.more_processes xs (fixed k.EndSystem ∷ w)) h.others h.rest in
-    let q = processes_read xs some.1 (fixed k.EndSystem ∷ w) p.others p.rest in record {
+    let p = process_read x some.0 (canon.more_processes xs (fixed fix.EndSystem ∷ w)) h.others h.rest in
+    let q = processes_read xs some.1 (fixed fix.EndSystem ∷ w) p.others p.rest in record {
       phrase = g.system (h.first, h.is) p.phrase q.phrase (q.rest.first, q.rest.is);
       others = q.rest.others;
       rest = q.rest.rest;
@@ -293,7 +286,7 @@ source_read [] (x ∷ xs) ok some w ts h =
           (ap unfit h.is, tt, p.goes (processes q.phrase last) (q.goes last (λ n. (ap unfit q.rest.is, tt, f n))) n);
     }
 source_read (x ∷ xs) ps ok some w ts h =
-    let after = canon.modules xs (fixed k.System ∷ canon.processes ps (fixed k.EndSystem ∷ w)) in
+    let after = canon.modules xs (fixed fix.System ∷ canon.processes ps (fixed fix.EndSystem ∷ w)) in
     let p = module_read x ok.0 after ts h in
     let q = source_read xs ps ok.1 some w p.others p.rest in record {
       phrase = g.after_module p.phrase q.phrase;

@@ -1,13 +1,13 @@
 -- The canonical spelling of each statement that a source may have is read as that statement.
 use Rattle.std.proofs.Common.{◌≡◌, ◌<◌, ℕ, ◌+◌, ◌-◌, List, [], ◌∷◌, refl, ap, ap₂, sym, ◌∙◌, arith}
 use Rattle.hc_grammar.specs.Texts.{Read, Did}
-use Rattle.hc_token.specs.declared.kind.Kind.TheVariants as k
+use Rattle.hc_token.specs.declared.fixed.Fixed.TheVariants as fix
 use Rattle.hc_token.specs.declared.token.Token.{Token}
 use Rattle.hc_ast.specs.declared.role.Role.TheVariants as r
 use Rattle.hc_ast.specs.declared.role.Mark.TheVariants as m
 use Rattle.hc_ast.specs.Bare.{BareExpr, BareCond, BareIo, send, receive, BareRate, BareStmt, BareStmts, no_more, then, BareBranches, no_other, or_else}
 use Rattle.hc_ast.specs.Bare as b
-use Rattle.hc_ast.specs.Leaves.{Spelled, name_in}
+use Rattle.hc_ast.specs.Leaves.{Spelled}
 use Rattle.hc_ast.specs.Exprs.{Expr, expr}
 use Rattle.hc_ast.specs.Conds.{Cond, cond}
 use Rattle.hc_ast.specs.Stmts as g
@@ -23,7 +23,7 @@ use Rattle.hc_print.proofs.OkStmts.{OkExpr, OkCond, OkIo, OkRate, OkRates, AreSo
 use Rattle.hc_print.proofs.Peaks.{size, cond_size}
 use Rattle.hc_print.proofs.Saying.{Says, Next}
 use Rattle.hc_print.proofs.Walking.{Walks, walks_at}
-use Rattle.hc_print.proofs.Phrases.{IsFit, Phrase}
+use Rattle.hc_print.proofs.Phrases.{flaw_of, IsFit, Phrase}
 use Rattle.hc_print.proofs.ReadExprs.{all_levels}
 use Rattle.hc_print.proofs.ReadConds.{all_levels_of}
 
@@ -71,32 +71,32 @@ io_read : (i : BareIo) (d : ℕ) → OkIo i d → (w : Lexemes) (ts : List Token
     → Phrase io io_bare (Free d) i w ts
 io_read (send x e) d ok w ts h =
     let p = expr_read e d ok.1 w h.rest.others h.rest.rest in record {
-      phrase = g.send (h.first, h.is.0) (h.rest.first, h.rest.is) p.phrase;
+      phrase = g.send (h.first, x, h.is) (h.rest.first, h.rest.is) p.phrase;
       others = p.others;
       rest = p.rest;
       tokens = λ v q. front h (front h.rest (p.tokens (Did m.Send ∷ v) q));
-      bare = ap₂ send (ap name_in h.is.1) p.bare;
-      goes = λ v f n. (ap unfit h.is.0, tt, (ap unfit h.rest.is, tt, p.goes (Did m.Send ∷ v) f n));
+      bare = ap (send x) p.bare;
+      goes = λ v f n. (ap flaw_of h.is, tt, (ap unfit h.rest.is, tt, p.goes (Did m.Send ∷ v) f n));
     }
 io_read (receive x y) d ok w ts h = record {
-  phrase = g.receive (h.first, h.is.0) (h.rest.first, h.rest.is) (h.rest.rest.first, h.rest.rest.is.0);
+  phrase = g.receive (h.first, x, h.is) (h.rest.first, h.rest.is) (h.rest.rest.first, y, h.rest.rest.is);
   others = h.rest.rest.others;
   rest = h.rest.rest.rest;
   tokens = λ v q. front h (front h.rest (front h.rest.rest q));
-  bare = ap₂ receive (ap name_in h.is.1) (ap name_in h.rest.rest.is.1);
-  goes = λ v f n. (ap unfit h.is.0, tt, (ap unfit h.rest.is, tt, (ap unfit h.rest.rest.is.0, tt, f n)));
+  bare = refl;
+  goes = λ v f n. (ap flaw_of h.is, tt, (ap unfit h.rest.is, tt, (ap flaw_of h.rest.rest.is, tt, f n)));
 }
 
 rate_read : (x : BareRate) (d : ℕ) → OkRate x d → (w : Lexemes) (ts : List Token) → Says (canon.rate x w) ts
     → Phrase rate rate_bare (Free d) x w ts
 rate_read x d ok w ts h =
     let p = expr_read x.value d ok.1 w h.rest.others h.rest.rest in record {
-      phrase = g.rate (h.first, h.is.0) (h.rest.first, h.rest.is) p.phrase;
+      phrase = g.rate (h.first, x.variable, h.is) (h.rest.first, h.rest.is) p.phrase;
       others = p.others;
       rest = p.rest;
       tokens = λ v q. front h (front h.rest (p.tokens (Did m.Rate ∷ v) q));
-      bare = ap₂ (λ y e. let a_rate : BareRate = record { variable = y; value = e } in a_rate) (ap name_in h.is.1) p.bare;
-      goes = λ v f n. (ap unfit h.is.0, tt, (ap unfit h.rest.is, tt, p.goes (Did m.Rate ∷ v) f n));
+      bare = ap (λ e. let a_rate : BareRate = record { variable = x.variable; value = e } in a_rate) p.bare;
+      goes = λ v f n. (ap flaw_of h.is, tt, (ap unfit h.rest.is, tt, p.goes (Did m.Rate ∷ v) f n));
     }
 
 rates_read : (xs : List BareRate) (d : ℕ) → OkRates xs d → (w : Lexemes) (ts : List Token) → Says (canon.more_rates xs w) ts
@@ -168,15 +168,15 @@ mutual
   }
   stmt_read (b.assign x e) d ok w ts h =
       let p = expr_read e d ok.1 w h.rest.others h.rest.rest in record {
-        phrase = g.assign (h.first, h.is.0) (h.rest.first, h.rest.is) p.phrase;
+        phrase = g.assign (h.first, x, h.is) (h.rest.first, h.rest.is) p.phrase;
         others = p.others;
         rest = p.rest;
         tokens = λ v q. front h (front h.rest (p.tokens (Did m.Assign ∷ v) q));
-        bare = ap₂ b.assign (ap name_in h.is.1) p.bare;
-        goes = λ v f n. (ap unfit h.is.0, tt, (ap unfit h.rest.is, tt, p.goes (Did m.Assign ∷ v) f n));
+        bare = ap (b.assign x) p.bare;
+        goes = λ v f n. (ap flaw_of h.is, tt, (ap unfit h.rest.is, tt, p.goes (Did m.Assign ∷ v) f n));
       }
   stmt_read (b.wait e) d ok w ts h =
-      let p = expr_read e d ok (fixed k.CloseRound ∷ w) h.rest.others h.rest.rest in record {
+      let p = expr_read e d ok (fixed fix.CloseRound ∷ w) h.rest.others h.rest.rest in record {
         phrase = g.wait (h.first, h.is) (h.rest.first, h.rest.is) p.phrase (p.rest.first, p.rest.is);
         others = p.rest.others;
         rest = p.rest.rest;
@@ -193,7 +193,7 @@ mutual
         );
       }
   stmt_read (b.log e) d ok w ts h =
-      let p = expr_read e d ok (fixed k.CloseRound ∷ w) h.rest.others h.rest.rest in record {
+      let p = expr_read e d ok (fixed fix.CloseRound ∷ w) h.rest.others h.rest.rest in record {
         phrase = g.log (h.first, h.is) (h.rest.first, h.rest.is) p.phrase (p.rest.first, p.rest.is);
         others = p.rest.others;
         rest = p.rest.rest;
@@ -219,8 +219,8 @@ mutual
         goes = λ v f n. p.goes (Did m.Io ∷ v) f n;
       }
   stmt_read (b.when c ss) d ok w ts h =
-      let p = cond_read c (d + 1) ok.1 (fixed k.Then ∷ canon.stmts ss (fixed k.EndIf ∷ w)) h.others h.rest in
-      let q = seq_read ss (d + 1) ok.2 (fixed k.EndIf ∷ w) p.rest.others p.rest.rest in record {
+      let p = cond_read c (d + 1) ok.1 (fixed fix.Then ∷ canon.stmts ss (fixed fix.EndIf ∷ w)) h.others h.rest in
+      let q = seq_read ss (d + 1) ok.2 (fixed fix.EndIf ∷ w) p.rest.others p.rest.rest in record {
         phrase = g.when (h.first, h.is) p.phrase (p.rest.first, p.rest.is) q.phrase (q.rest.first, q.rest.is);
         others = q.rest.others;
         rest = q.rest.rest;
@@ -237,10 +237,10 @@ mutual
             );
       }
   stmt_read (b.choose c ss rs) d ok w ts h =
-      let p = cond_read c (d + 1) ok.1 (fixed k.Then ∷ canon.stmts ss (fixed k.Else ∷ canon.stmts rs (fixed k.EndIf ∷ w)))
+      let p = cond_read c (d + 1) ok.1 (fixed fix.Then ∷ canon.stmts ss (fixed fix.Else ∷ canon.stmts rs (fixed fix.EndIf ∷ w)))
       h.others h.rest in
-      let q = seq_read ss (d + 1) ok.2 (fixed k.Else ∷ canon.stmts rs (fixed k.EndIf ∷ w)) p.rest.others p.rest.rest in
-      let o = seq_read rs (d + 1) ok.3 (fixed k.EndIf ∷ w) q.rest.others q.rest.rest in record {
+      let q = seq_read ss (d + 1) ok.2 (fixed fix.Else ∷ canon.stmts rs (fixed fix.EndIf ∷ w)) p.rest.others p.rest.rest in
+      let o = seq_read rs (d + 1) ok.3 (fixed fix.EndIf ∷ w) q.rest.others q.rest.rest in record {
         phrase = g.choose (h.first, h.is) p.phrase (p.rest.first, p.rest.is) q.phrase (q.rest.first, q.rest.is) o.phrase
             (o.rest.first, o.rest.is);
         others = o.rest.others;
@@ -267,9 +267,9 @@ mutual
       }
   stmt_read (b.pick ss rs) d ok w ts h =
       let p = seq_read ss (d + 1) ok.1
-      (fixed k.CloseRound ∷ fixed k.PlusPlus ∷ fixed k.OpenRound ∷ canon.stmts rs (fixed k.CloseRound ∷ w)) h.others h.rest in
+      (fixed fix.CloseRound ∷ fixed fix.PlusPlus ∷ fixed fix.OpenRound ∷ canon.stmts rs (fixed fix.CloseRound ∷ w)) h.others h.rest in
       let sign = p.rest.rest in
-      let q = seq_read rs (d + 1) ok.2 (fixed k.CloseRound ∷ w) sign.rest.others sign.rest.rest in record {
+      let q = seq_read rs (d + 1) ok.2 (fixed fix.CloseRound ∷ w) sign.rest.others sign.rest.rest in record {
         phrase = g.pick (h.first, h.is) p.phrase (p.rest.first, p.rest.is) (sign.first, sign.is) (sign.rest.first, sign.rest.is)
             q.phrase (q.rest.first, q.rest.is);
         others = q.rest.others;
@@ -303,7 +303,7 @@ mutual
             );
       }
   stmt_read (b.forever ss) d ok w ts h =
-      let p = seq_read ss (d + 1) ok.1 (fixed k.CloseRound ∷ fixed k.StarStar ∷ w) h.others h.rest in
+      let p = seq_read ss (d + 1) ok.1 (fixed fix.CloseRound ∷ fixed fix.StarStar ∷ w) h.others h.rest in
       let sign = p.rest.rest in record {
         phrase = g.forever (h.first, h.is) p.phrase (p.rest.first, p.rest.is) (sign.first, sign.is);
         others = sign.others;
@@ -321,10 +321,10 @@ mutual
             );
       }
   stmt_read (b.loop c ss) d ok w ts h =
-      let p = seq_read ss (d + 1) ok.1 (fixed k.CloseRound ∷ fixed k.OpenCurly
-      ∷ canon_expr.cond c at.Alone (fixed k.CloseCurly ∷ fixed k.StarStar ∷ w)) h.others h.rest in
+      let p = seq_read ss (d + 1) ok.1 (fixed fix.CloseRound ∷ fixed fix.OpenCurly
+      ∷ canon_expr.cond c at.Alone (fixed fix.CloseCurly ∷ fixed fix.StarStar ∷ w)) h.others h.rest in
       let curly = p.rest.rest in
-      let q = cond_read c (d + 1) ok.2 (fixed k.CloseCurly ∷ fixed k.StarStar ∷ w) curly.others curly.rest in
+      let q = cond_read c (d + 1) ok.2 (fixed fix.CloseCurly ∷ fixed fix.StarStar ∷ w) curly.others curly.rest in
       let sign = q.rest.rest in record {
         phrase = g.loop (h.first, h.is) p.phrase (p.rest.first, p.rest.is) (curly.first, curly.is) q.phrase
             (q.rest.first, q.rest.is) (sign.first, sign.is);
@@ -358,10 +358,10 @@ mutual
   stmt_read (b.choice no_other) d ok w ts h = absurd ok
   stmt_read (b.choice (or_else i ss bs)) d ok w ts h =
       let round = h.rest in
-      let p = io_read i (d + 1) ok.1 (fixed k.Arrow ∷ canon.stmts ss (canon.more_branches bs (fixed k.CloseRound ∷ w)))
+      let p = io_read i (d + 1) ok.1 (fixed fix.Arrow ∷ canon.stmts ss (canon.more_branches bs (fixed fix.CloseRound ∷ w)))
       round.others round.rest in
-      let q = seq_read ss (d + 1) ok.2 (canon.more_branches bs (fixed k.CloseRound ∷ w)) p.rest.others p.rest.rest in
-      let o = branches_read bs (d + 1) ok.3 (fixed k.CloseRound ∷ w) q.others q.rest in record {
+      let q = seq_read ss (d + 1) ok.2 (canon.more_branches bs (fixed fix.CloseRound ∷ w)) p.rest.others p.rest.rest in
+      let o = branches_read bs (d + 1) ok.3 (fixed fix.CloseRound ∷ w) q.others q.rest in record {
         phrase = g.select (g.choice (h.first, h.is) (round.first, round.is)
             (g.branch p.phrase (p.rest.first, p.rest.is) q.phrase) o.phrase (o.rest.first, o.rest.is));
         others = o.rest.others;
@@ -393,10 +393,10 @@ mutual
   stmt_read (b.evolve [] c bs) d ok w ts h = absurd ok
   stmt_read (b.evolve (x ∷ xs) c bs) d ok w ts h =
       let p = rate_read x (d + 1) ok.1
-      (canon.more_rates xs (fixed k.And ∷ canon_expr.cond c at.Alone (fixed k.Greater ∷ canon.interrupt bs w))) h.others h.rest in
-      let q = rates_read xs (d + 1) ok.2 (fixed k.And ∷ canon_expr.cond c at.Alone (fixed k.Greater ∷ canon.interrupt bs w))
+      (canon.more_rates xs (fixed fix.And ∷ canon_expr.cond c at.Alone (fixed fix.Greater ∷ canon.interrupt bs w))) h.others h.rest in
+      let q = rates_read xs (d + 1) ok.2 (fixed fix.And ∷ canon_expr.cond c at.Alone (fixed fix.Greater ∷ canon.interrupt bs w))
       p.others p.rest in
-      let o = cond_read c (d + 1) ok.3 (fixed k.Greater ∷ canon.interrupt bs w) q.rest.others q.rest.rest in
+      let o = cond_read c (d + 1) ok.3 (fixed fix.Greater ∷ canon.interrupt bs w) q.rest.others q.rest.rest in
       let j = interrupt_read bs d ok.0 ok.4 w o.rest.others o.rest.rest in record {
         phrase = g.evolve (h.first, h.is) p.phrase q.phrase (q.rest.first, q.rest.is) o.phrase (o.rest.first, o.rest.is) j.phrase;
         others = j.others;
@@ -437,10 +437,10 @@ mutual
   interrupt_read (or_else i ss bs) d room ok w ts h =
       let square = h.rest in
       let round = square.rest in
-      let p = io_read i (d + 1) ok.0 (fixed k.Arrow ∷ canon.stmts ss (canon.more_branches bs (fixed k.CloseRound ∷ w)))
+      let p = io_read i (d + 1) ok.0 (fixed fix.Arrow ∷ canon.stmts ss (canon.more_branches bs (fixed fix.CloseRound ∷ w)))
       round.others round.rest in
-      let q = seq_read ss (d + 1) ok.1 (canon.more_branches bs (fixed k.CloseRound ∷ w)) p.rest.others p.rest.rest in
-      let o = branches_read bs (d + 1) ok.2 (fixed k.CloseRound ∷ w) q.others q.rest in record {
+      let q = seq_read ss (d + 1) ok.1 (canon.more_branches bs (fixed fix.CloseRound ∷ w)) p.rest.others p.rest.rest in
+      let o = branches_read bs (d + 1) ok.2 (fixed fix.CloseRound ∷ w) q.others q.rest in record {
         phrase = g.on (h.first, h.is) (g.choice (square.first, square.is) (round.first, round.is)
             (g.branch p.phrase (p.rest.first, p.rest.is) q.phrase) o.phrase (o.rest.first, o.rest.is));
         others = o.rest.others;
@@ -485,7 +485,7 @@ mutual
     goes = λ v f n. f n;
   }
   branches_read (or_else i ss bs) d ok w ts h =
-      let p = io_read i d ok.0 (fixed k.Arrow ∷ canon.stmts ss (canon.more_branches bs w)) h.others h.rest in
+      let p = io_read i d ok.0 (fixed fix.Arrow ∷ canon.stmts ss (canon.more_branches bs w)) h.others h.rest in
       let q = seq_read ss d ok.1 (canon.more_branches bs w) p.rest.others p.rest.rest in
       let o = branches_read bs d ok.2 w q.others q.rest in record {
         phrase = g.other (h.first, h.is) (g.branch p.phrase (p.rest.first, p.rest.is) q.phrase) o.phrase;

@@ -3,7 +3,6 @@ use Rattle.std.proofs.Common.{rules, ◌≡◌, refl, ap, ap₂, ◌∙◌, List
 use Rattle.hc_frac.specs.declared.place.Place.{Place}
 use Rattle.hc_ast.specs.Bare.{Word, BareExpr, BareCond, BareIo, BareRate, BareStmt, BareStmts, then, BareBranches, or_else}
 use Rattle.hc_ast.specs.Bare as b
-use Rattle.hc_ast.specs.Leaves.{name_in}
 use Rattle.hc_ast.specs.Unplaced.{stmt_layer, branch_layer, bare_expr, bare_io, bare_rate, bare_stmt, bare_stmts, bare_branch, bare_branches}
 use Rattle.hc_ast.specs.declared.expr.ExprTree.{ExprTree}
 use Rattle.hc_ast.specs.declared.stmt.IoTree.{IoTree}
@@ -41,12 +40,12 @@ bare_branch-at p i ss =
     fold-roll-BranchTree BareStmt (BareIo × BareStmts) BareStmt stmt_layer branch_layer (λ x. x.kind) (record { place = p; io = i; body = ss })
 
 pub io_same : (x : g.Io) → bare_io (io_tree x) ≡ io_bare x
-io_same (g.send x t e) = ap (b.send (name_in x.0.content)) (expr_same e)
+io_same (g.send x t e) = ap (b.send x.1) (expr_same e)
 io_same (g.receive x t y) = refl
 
 rate_same : (x : g.Rate) → bare_rate (rate_tree x) ≡ rate_bare x
 rate_same (g.rate x t e) =
-    ap (λ (v : BareExpr). let r : BareRate = record { variable = name_in x.0.content; value = v } in r) (expr_same e)
+    ap (λ (v : BareExpr). let r : BareRate = record { variable = x.1; value = v } in r) (expr_same e)
 
 rates_same : (xs : g.Rates) → map bare_rate (rates_tree xs) ≡ rates_bare xs
 rates_same g.no_rate = refl
@@ -73,7 +72,7 @@ mutual
   pub stmt_same : (x : g.Stmt) → bare_stmt (stmt_tree x) ≡ stmt_bare x
   stmt_same (g.skip t) = bare_skip (stmt_tree (g.skip t)) refl
   stmt_same (g.assign x t e) =
-      bare_assign (stmt_tree (g.assign x t e)) (name_in x.0.content) (expr_tree e) refl ∙ ap (b.assign (name_in x.0.content)) (expr_same e)
+      bare_assign (stmt_tree (g.assign x t e)) x.1 (expr_tree e) refl ∙ ap (b.assign x.1) (expr_same e)
   stmt_same (g.wait t a e z) = bare_wait (stmt_tree (g.wait t a e z)) (expr_tree e) refl ∙ ap b.wait (expr_same e)
   stmt_same (g.log t a e z) = bare_log (stmt_tree (g.log t a e z)) (expr_tree e) refl ∙ ap b.log (expr_same e)
   stmt_same (g.communicate i) = bare_communicate (stmt_tree (g.communicate i)) (io_tree i) refl ∙ ap b.io (io_same i)

@@ -1,7 +1,7 @@
 -- The canonical spelling of expressions and conditions: with brackets only where the grammar needs them.
 use Rattle.std.specs.Prelude.{Bool, true, false, ◌∷◌}
-use Rattle.hc_token.specs.declared.kind.Kind.{Kind}
-use Rattle.hc_token.specs.declared.kind.Kind.TheVariants as k
+use Rattle.hc_token.specs.declared.fixed.Fixed.{Fixed}
+use Rattle.hc_token.specs.declared.fixed.Fixed.TheVariants as fix
 use Rattle.hc_ast.specs.declared.expr.Op.{Op}
 use Rattle.hc_ast.specs.declared.expr.Op.TheVariants as sign
 use Rattle.hc_ast.specs.declared.expr.Comparison.{Comparison}
@@ -12,19 +12,19 @@ use Rattle.hc_print.specs.declared.level.Level.TheVariants as at
 use Rattle.hc_print.specs.Lexemes.{Lexemes, fixed, named, numbered, only_if}
 
 -- the token of a sign
-abbrev pub op_sign : Op → Kind
-op_sign sign.Add = k.Plus
-op_sign sign.Sub = k.Minus
-op_sign sign.Mul = k.Star
-op_sign sign.Div = k.Slash
+abbrev pub op_sign : Op → Fixed
+op_sign sign.Add = fix.Plus
+op_sign sign.Sub = fix.Minus
+op_sign sign.Mul = fix.Star
+op_sign sign.Div = fix.Slash
 
-abbrev pub comparison_sign : Comparison → Kind
-comparison_sign how.Less = k.Less
-comparison_sign how.AtMost = k.LessEqual
-comparison_sign how.Equal = k.EqualEqual
-comparison_sign how.NotEqual = k.NotEqual
-comparison_sign how.AtLeast = k.GreaterEqual
-comparison_sign how.Greater = k.Greater
+abbrev pub comparison_sign : Comparison → Fixed
+comparison_sign how.Less = fix.Less
+comparison_sign how.AtMost = fix.LessEqual
+comparison_sign how.Equal = fix.EqualEqual
+comparison_sign how.NotEqual = fix.NotEqual
+comparison_sign how.AtLeast = fix.GreaterEqual
+comparison_sign how.Greater = fix.Greater
 
 -- where the left and the right operand of a sign stand
 abbrev pub left_of : Op → Level
@@ -52,10 +52,10 @@ needs_round op at.Tight = true
 abbrev pub expr : BareExpr → Level → Lexemes → Lexemes
 expr (number digits places) l w = numbered digits places ∷ w
 expr (name x) l w = named x ∷ w
-expr (neg x) l w = fixed k.Minus ∷ expr x at.Tight w
+expr (neg x) l w = fixed fix.Minus ∷ expr x at.Tight w
 expr (binary op x y) l w =
-    only_if (needs_round op l) k.OpenRound
-    (expr x (left_of op) (fixed (op_sign op) ∷ expr y (right_of op) (only_if (needs_round op l) k.CloseRound w)))
+    only_if (needs_round op l) fix.OpenRound
+    (expr x (left_of op) (fixed (op_sign op) ∷ expr y (right_of op) (only_if (needs_round op l) fix.CloseRound w)))
 
 -- whether an `||`, and an `&&`, needs square brackets where it stands
 abbrev pub either_needs_square : Level → Bool
@@ -70,13 +70,13 @@ both_needs_square at.Tight = true
 
 -- the tokens of a condition where it stands, in front of w
 abbrev pub cond : BareCond → Level → Lexemes → Lexemes
-cond always l w = fixed k.True ∷ w
-cond never l w = fixed k.False ∷ w
+cond always l w = fixed fix.True ∷ w
+cond never l w = fixed fix.False ∷ w
 cond (compare how x y) l w = expr x at.Alone (fixed (comparison_sign how) ∷ expr y at.Alone w)
-cond (negation c) l w = fixed k.Exclamation ∷ cond c at.Tight w
+cond (negation c) l w = fixed fix.Exclamation ∷ cond c at.Tight w
 cond (both b c) l w =
-    only_if (both_needs_square l) k.OpenSquare
-    (cond b at.Inner (fixed k.AndAnd ∷ cond c at.Tight (only_if (both_needs_square l) k.CloseSquare w)))
+    only_if (both_needs_square l) fix.OpenSquare
+    (cond b at.Inner (fixed fix.AndAnd ∷ cond c at.Tight (only_if (both_needs_square l) fix.CloseSquare w)))
 cond (either b c) l w =
-    only_if (either_needs_square l) k.OpenSquare
-    (cond b at.Alone (fixed k.BarBar ∷ cond c at.Inner (only_if (either_needs_square l) k.CloseSquare w)))
+    only_if (either_needs_square l) fix.OpenSquare
+    (cond b at.Alone (fixed fix.BarBar ∷ cond c at.Inner (only_if (either_needs_square l) fix.CloseSquare w)))

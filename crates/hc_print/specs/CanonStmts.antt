@@ -1,6 +1,6 @@
 -- The canonical spelling of statements.
 use Rattle.std.specs.Prelude.{List, [], ◌∷◌}
-use Rattle.hc_token.specs.declared.kind.Kind.TheVariants as k
+use Rattle.hc_token.specs.declared.fixed.Fixed.TheVariants as fix
 use Rattle.hc_ast.specs.Bare.{BareIo, send, receive, BareRate, BareStmt, BareStmts, no_more, then, BareBranches, no_other, or_else}
 use Rattle.hc_ast.specs.Bare as b
 use Rattle.hc_print.specs.declared.level.Level.TheVariants as at
@@ -9,16 +9,16 @@ use Rattle.hc_print.specs.CanonExprs.{expr, cond}
 
 -- each in front of w
 abbrev pub io : BareIo → Lexemes → Lexemes
-io (send channel value) w = named channel ∷ fixed k.Exclamation ∷ expr value at.Alone w
-io (receive channel target) w = named channel ∷ fixed k.Question ∷ named target ∷ w
+io (send channel value) w = named channel ∷ fixed fix.Exclamation ∷ expr value at.Alone w
+io (receive channel target) w = named channel ∷ fixed fix.Question ∷ named target ∷ w
 
 abbrev pub rate : BareRate → Lexemes → Lexemes
-rate r w = rated r.variable ∷ fixed k.Equal ∷ expr r.value at.Alone w
+rate r w = rated r.variable ∷ fixed fix.Equal ∷ expr r.value at.Alone w
 
 -- further rates, each behind a comma
 abbrev pub more_rates : List BareRate → Lexemes → Lexemes
 more_rates [] w = w
-more_rates (r ∷ rs) w = fixed k.Comma ∷ rate r (more_rates rs w)
+more_rates (r ∷ rs) w = fixed fix.Comma ∷ rate r (more_rates rs w)
 
 -- rates with commas between them
 abbrev pub rates : List BareRate → Lexemes → Lexemes
@@ -34,41 +34,41 @@ abbrev mutual
   -- further statements, each behind a semicolon
   pub more_stmts : BareStmts → Lexemes → Lexemes
   more_stmts no_more w = w
-  more_stmts (then s ss) w = fixed k.Semicolon ∷ stmt s (more_stmts ss w)
+  more_stmts (then s ss) w = fixed fix.Semicolon ∷ stmt s (more_stmts ss w)
 
   pub stmt : BareStmt → Lexemes → Lexemes
-  stmt b.skip w = fixed k.Skip ∷ w
-  stmt (b.assign x e) w = named x ∷ fixed k.ColonEqual ∷ expr e at.Alone w
-  stmt (b.wait e) w = fixed k.Wait ∷ fixed k.OpenRound ∷ expr e at.Alone (fixed k.CloseRound ∷ w)
+  stmt b.skip w = fixed fix.Skip ∷ w
+  stmt (b.assign x e) w = named x ∷ fixed fix.ColonEqual ∷ expr e at.Alone w
+  stmt (b.wait e) w = fixed fix.Wait ∷ fixed fix.OpenRound ∷ expr e at.Alone (fixed fix.CloseRound ∷ w)
   stmt (b.io i) w = io i w
-  stmt (b.log e) w = fixed k.Log ∷ fixed k.OpenRound ∷ expr e at.Alone (fixed k.CloseRound ∷ w)
-  stmt (b.when c ss) w = fixed k.If ∷ cond c at.Alone (fixed k.Then ∷ stmts ss (fixed k.EndIf ∷ w))
+  stmt (b.log e) w = fixed fix.Log ∷ fixed fix.OpenRound ∷ expr e at.Alone (fixed fix.CloseRound ∷ w)
+  stmt (b.when c ss) w = fixed fix.If ∷ cond c at.Alone (fixed fix.Then ∷ stmts ss (fixed fix.EndIf ∷ w))
   stmt (b.choose c ss rs) w =
-      fixed k.If ∷ cond c at.Alone (fixed k.Then ∷ stmts ss (fixed k.Else ∷ stmts rs (fixed k.EndIf ∷ w)))
+      fixed fix.If ∷ cond c at.Alone (fixed fix.Then ∷ stmts ss (fixed fix.Else ∷ stmts rs (fixed fix.EndIf ∷ w)))
   stmt (b.pick ss rs) w =
-      fixed k.OpenRound ∷ stmts ss
-      (fixed k.CloseRound ∷ fixed k.PlusPlus ∷ fixed k.OpenRound ∷ stmts rs (fixed k.CloseRound ∷ w))
-  stmt (b.forever ss) w = fixed k.OpenRound ∷ stmts ss (fixed k.CloseRound ∷ fixed k.StarStar ∷ w)
+      fixed fix.OpenRound ∷ stmts ss
+      (fixed fix.CloseRound ∷ fixed fix.PlusPlus ∷ fixed fix.OpenRound ∷ stmts rs (fixed fix.CloseRound ∷ w))
+  stmt (b.forever ss) w = fixed fix.OpenRound ∷ stmts ss (fixed fix.CloseRound ∷ fixed fix.StarStar ∷ w)
   stmt (b.loop c ss) w =
-      fixed k.OpenRound ∷ stmts ss
-      (fixed k.CloseRound ∷ fixed k.OpenCurly ∷ cond c at.Alone (fixed k.CloseCurly ∷ fixed k.StarStar ∷ w))
-  stmt (b.choice bs) w = fixed k.EmptySquare ∷ fixed k.OpenRound ∷ branches bs (fixed k.CloseRound ∷ w)
+      fixed fix.OpenRound ∷ stmts ss
+      (fixed fix.CloseRound ∷ fixed fix.OpenCurly ∷ cond c at.Alone (fixed fix.CloseCurly ∷ fixed fix.StarStar ∷ w))
+  stmt (b.choice bs) w = fixed fix.EmptySquare ∷ fixed fix.OpenRound ∷ branches bs (fixed fix.CloseRound ∷ w)
   stmt (b.evolve rs c bs) w =
-      fixed k.Less ∷ rates rs (fixed k.And ∷ cond c at.Alone (fixed k.Greater ∷ interrupt bs w))
+      fixed fix.Less ∷ rates rs (fixed fix.And ∷ cond c at.Alone (fixed fix.Greater ∷ interrupt bs w))
 
   -- what may end an evolution: nothing is written where there are no branches
   pub interrupt : BareBranches → Lexemes → Lexemes
   interrupt no_other w = w
   interrupt (or_else i ss bs) w =
-      fixed k.BarGreater ∷ fixed k.EmptySquare ∷ fixed k.OpenRound
-      ∷ io i (fixed k.Arrow ∷ stmts ss (more_branches bs (fixed k.CloseRound ∷ w)))
+      fixed fix.BarGreater ∷ fixed fix.EmptySquare ∷ fixed fix.OpenRound
+      ∷ io i (fixed fix.Arrow ∷ stmts ss (more_branches bs (fixed fix.CloseRound ∷ w)))
 
   -- branches with commas between them
   pub branches : BareBranches → Lexemes → Lexemes
   branches no_other w = w
-  branches (or_else i ss bs) w = io i (fixed k.Arrow ∷ stmts ss (more_branches bs w))
+  branches (or_else i ss bs) w = io i (fixed fix.Arrow ∷ stmts ss (more_branches bs w))
 
   -- further branches, each behind a comma
   pub more_branches : BareBranches → Lexemes → Lexemes
   more_branches no_other w = w
-  more_branches (or_else i ss bs) w = fixed k.Comma ∷ io i (fixed k.Arrow ∷ stmts ss (more_branches bs w))
+  more_branches (or_else i ss bs) w = fixed fix.Comma ∷ io i (fixed fix.Arrow ∷ stmts ss (more_branches bs w))

@@ -1,7 +1,7 @@
 -- The canonical spelling of a source.
 use Rattle.std.specs.Prelude.{ℕ, List, [], ◌∷◌}
-use Rattle.hc_token.specs.declared.kind.Kind.{Kind}
-use Rattle.hc_token.specs.declared.kind.Kind.TheVariants as k
+use Rattle.hc_token.specs.declared.fixed.Fixed.{Fixed}
+use Rattle.hc_token.specs.declared.fixed.Fixed.TheVariants as fix
 use Rattle.hc_ast.specs.declared.tree.ParamKind.{ParamKind}
 use Rattle.hc_ast.specs.declared.tree.ParamKind.TheVariants as stands_for
 use Rattle.hc_ast.specs.declared.tree.Tree.{Tree}
@@ -14,9 +14,9 @@ use Rattle.hc_print.specs.CanonExprs.{expr}
 use Rattle.hc_print.specs.CanonStmts.{stmts}
 
 -- the word before a parameter
-abbrev pub param_sign : ParamKind → Kind
-param_sign stands_for.Channel = k.Ch
-param_sign stands_for.Value = k.Val
+abbrev pub param_sign : ParamKind → Fixed
+param_sign stands_for.Channel = fix.Ch
+param_sign stands_for.Value = fix.Val
 
 -- each in front of w
 abbrev pub param : BareParam → Lexemes → Lexemes
@@ -24,7 +24,7 @@ param p w = fixed (param_sign p.kind) ∷ named p.name ∷ w
 
 abbrev pub more_params : List BareParam → Lexemes → Lexemes
 more_params [] w = w
-more_params (p ∷ ps) w = fixed k.Comma ∷ param p (more_params ps w)
+more_params (p ∷ ps) w = fixed fix.Comma ∷ param p (more_params ps w)
 
 abbrev pub params : List BareParam → Lexemes → Lexemes
 params [] w = w
@@ -33,10 +33,10 @@ params (p ∷ ps) w = param p (more_params ps w)
 -- a module up to its colon
 abbrev pub head : BareModule → Lexemes → Lexemes
 head m w =
-    fixed k.Module ∷ named m.name ∷ fixed k.OpenRound ∷ params m.params (fixed k.CloseRound ∷ fixed k.Colon ∷ w)
+    fixed fix.Module ∷ named m.name ∷ fixed fix.OpenRound ∷ params m.params (fixed fix.CloseRound ∷ fixed fix.Colon ∷ w)
 
 abbrev pub module_of : BareModule → Lexemes → Lexemes
-module_of m w = head m (fixed k.Begin ∷ stmts m.body (fixed k.EndBody ∷ fixed k.EndModule ∷ w))
+module_of m w = head m (fixed fix.Begin ∷ stmts m.body (fixed fix.EndBody ∷ fixed fix.EndModule ∷ w))
 
 abbrev pub modules : List BareModule → Lexemes → Lexemes
 modules [] w = w
@@ -44,22 +44,22 @@ modules (m ∷ ms) w = module_of m (modules ms w)
 
 abbrev pub more_arguments : List BareExpr → Lexemes → Lexemes
 more_arguments [] w = w
-more_arguments (e ∷ es) w = fixed k.Comma ∷ expr e at.Alone (more_arguments es w)
+more_arguments (e ∷ es) w = fixed fix.Comma ∷ expr e at.Alone (more_arguments es w)
 
 abbrev pub arguments : List BareExpr → Lexemes → Lexemes
 arguments [] w = w
 arguments (e ∷ es) w = expr e at.Alone (more_arguments es w)
 
 abbrev pub body : BareBody → Lexemes → Lexemes
-body (inline ss) w = fixed k.OpenRound ∷ stmts ss (fixed k.CloseRound ∷ w)
-body (call named_by es) w = named named_by ∷ fixed k.OpenRound ∷ arguments es (fixed k.CloseRound ∷ w)
+body (inline ss) w = fixed fix.OpenRound ∷ stmts ss (fixed fix.CloseRound ∷ w)
+body (call named_by es) w = named named_by ∷ fixed fix.OpenRound ∷ arguments es (fixed fix.CloseRound ∷ w)
 
 abbrev pub process : BareProcess → Lexemes → Lexemes
-process p w = named p.name ∷ fixed k.Equal ∷ body p.body w
+process p w = named p.name ∷ fixed fix.Equal ∷ body p.body w
 
 abbrev pub more_processes : List BareProcess → Lexemes → Lexemes
 more_processes [] w = w
-more_processes (p ∷ ps) w = fixed k.BarBar ∷ process p (more_processes ps w)
+more_processes (p ∷ ps) w = fixed fix.BarBar ∷ process p (more_processes ps w)
 
 abbrev pub processes : List BareProcess → Lexemes → Lexemes
 processes [] w = w
@@ -67,7 +67,7 @@ processes (p ∷ ps) w = process p (more_processes ps w)
 
 -- the tokens of a source
 abbrev pub source : BareTree → Lexemes
-source t = modules t.modules (fixed k.System ∷ processes t.processes (fixed k.EndSystem ∷ []))
+source t = modules t.modules (fixed fix.System ∷ processes t.processes (fixed fix.EndSystem ∷ []))
 
 -- the canonical spelling of a tree
 abbrev pub canonical : Tree → List ℕ

@@ -9,7 +9,7 @@ ghost use Rattle.hc_print.specs.CanonExprs as canon;
 use crate::level::Level;
 use crate::writer::Writer;
 use hc_ast::{Comparison, CondKind, CondTree, ExprKind, ExprTree, Op};
-use hc_token::Kind;
+use hc_token::Fixed;
 use std::alloc::{AllocError, Global};
 
 /// An expression, in round brackets where it needs them.
@@ -21,16 +21,16 @@ pub(crate) fn write_expr(out: &mut Writer, tree: &ExprTree, level: Level) -> Res
         ExprKind::Number(number) => out.number(*number),
         ExprKind::Name(name) => out.name(name),
         ExprKind::Neg(part) => {
-            out.sign(Kind::Minus)?;
+            out.sign(Fixed::Minus)?;
             write_expr(out, part.get(), Level::Tight)
         }
         ExprKind::Binary(op, left, right) => {
             let brackets = needs_round(*op, level);
-            out.sign_if(brackets, Kind::OpenRound)?;
+            out.sign_if(brackets, Fixed::OpenRound)?;
             write_expr(out, left.get(), left_of(*op))?;
             out.sign(op_sign(*op))?;
             write_expr(out, right.get(), right_of(*op))?;
-            out.sign_if(brackets, Kind::CloseRound)
+            out.sign_if(brackets, Fixed::CloseRound)
         }
     }
 }
@@ -41,57 +41,57 @@ pub(crate) fn write_cond(out: &mut Writer, tree: &CondTree, level: Level) -> Res
     ensures { OnOk result (Writes out.old out.new (canon.cond (bare_cond tree.now) level)) }
 {
     match &tree.kind {
-        CondKind::True => out.sign(Kind::True),
-        CondKind::False => out.sign(Kind::False),
+        CondKind::True => out.sign(Fixed::True),
+        CondKind::False => out.sign(Fixed::False),
         CondKind::Compare(how, left, right) => {
             write_expr(out, left.get(), Level::Alone)?;
             out.sign(comparison_sign(*how))?;
             write_expr(out, right.get(), Level::Alone)
         }
         CondKind::Not(part) => {
-            out.sign(Kind::Exclamation)?;
+            out.sign(Fixed::Exclamation)?;
             write_cond(out, part.get(), Level::Tight)
         }
         CondKind::And(left, right) => {
             let brackets = both_needs_square(level);
-            out.sign_if(brackets, Kind::OpenSquare)?;
+            out.sign_if(brackets, Fixed::OpenSquare)?;
             write_cond(out, left.get(), Level::Inner)?;
-            out.sign(Kind::AndAnd)?;
+            out.sign(Fixed::AndAnd)?;
             write_cond(out, right.get(), Level::Tight)?;
-            out.sign_if(brackets, Kind::CloseSquare)
+            out.sign_if(brackets, Fixed::CloseSquare)
         }
         CondKind::Or(left, right) => {
             let brackets = either_needs_square(level);
-            out.sign_if(brackets, Kind::OpenSquare)?;
+            out.sign_if(brackets, Fixed::OpenSquare)?;
             write_cond(out, left.get(), Level::Alone)?;
-            out.sign(Kind::BarBar)?;
+            out.sign(Fixed::BarBar)?;
             write_cond(out, right.get(), Level::Inner)?;
-            out.sign_if(brackets, Kind::CloseSquare)
+            out.sign_if(brackets, Fixed::CloseSquare)
         }
     }
 }
 
-fn op_sign(op: Op) -> Kind
+fn op_sign(op: Op) -> Fixed
     ensures { result ≡ canon.op_sign op }
 {
     match op {
-        Op::Add => Kind::Plus,
-        Op::Sub => Kind::Minus,
-        Op::Mul => Kind::Star,
-        Op::Div => Kind::Slash,
+        Op::Add => Fixed::Plus,
+        Op::Sub => Fixed::Minus,
+        Op::Mul => Fixed::Star,
+        Op::Div => Fixed::Slash,
     }
 }
 
-fn comparison_sign(how: Comparison) -> Kind
+fn comparison_sign(how: Comparison) -> Fixed
     ensures { result ≡ canon.comparison_sign how }
 {
     match how {
-        Comparison::Less => Kind::Less,
-        Comparison::AtMost => Kind::LessEqual,
-        Comparison::Equal => Kind::EqualEqual,
-        Comparison::NotEqual => Kind::NotEqual,
-        Comparison::AtLeast => Kind::GreaterEqual,
-        Comparison::Greater => Kind::Greater,
+        Comparison::Less => Fixed::Less,
+        Comparison::AtMost => Fixed::LessEqual,
+        Comparison::Equal => Fixed::EqualEqual,
+        Comparison::NotEqual => Fixed::NotEqual,
+        Comparison::AtLeast => Fixed::GreaterEqual,
+        Comparison::Greater => Fixed::Greater,
     }
 }
 

@@ -11,7 +11,7 @@ use crate::expr::{write_cond, write_expr};
 use crate::level::Level;
 use crate::writer::Writer;
 use hc_ast::{BranchTree, CondTree, ExprTree, IoTree, RateTree, StmtKind, StmtTree};
-use hc_token::Kind;
+use hc_token::Fixed;
 use std::alloc::{AllocError, Global};
 
 fn write_io(out: &mut Writer, io: &IoTree) -> Result<(), AllocError>
@@ -20,12 +20,12 @@ fn write_io(out: &mut Writer, io: &IoTree) -> Result<(), AllocError>
     match io {
         IoTree::Send { channel, value } => {
             out.name(channel)?;
-            out.sign(Kind::Exclamation)?;
+            out.sign(Fixed::Exclamation)?;
             write_expr(out, value, Level::Alone)
         }
         IoTree::Receive { channel, target } => {
             out.name(channel)?;
-            out.sign(Kind::Question)?;
+            out.sign(Fixed::Question)?;
             out.name(target)
         }
     }
@@ -35,7 +35,7 @@ fn write_rate(out: &mut Writer, rate: &RateTree) -> Result<(), AllocError>
     ensures { OnOk result (Writes out.old out.new (canon.rate (bare_rate rate.now))) }
 {
     out.rate(&rate.variable)?;
-    out.sign(Kind::Equal)?;
+    out.sign(Fixed::Equal)?;
     write_expr(out, &rate.value, Level::Alone)
 }
 
@@ -47,7 +47,7 @@ fn write_rates(out: &mut Writer, rates: &[RateTree]) -> Result<(), AllocError>
     };
     write_rate(out, first)?;
     for rate in more {
-        out.sign(Kind::Comma)?;
+        out.sign(Fixed::Comma)?;
         write_rate(out, rate)?;
     }
     Ok(())
@@ -60,35 +60,35 @@ fn write_stmt(out: &mut Writer, statement: &StmtTree) -> Result<(), AllocError>
     ensures { OnOk result (Writes out.old out.new (canon.stmt (bare_stmt statement.now))) }
 {
     match &statement.kind {
-        StmtKind::Skip => out.sign(Kind::Skip),
+        StmtKind::Skip => out.sign(Fixed::Skip),
         StmtKind::Assign { target, value } => {
             out.name(target)?;
-            out.sign(Kind::ColonEqual)?;
+            out.sign(Fixed::ColonEqual)?;
             write_expr(out, value, Level::Alone)
         }
-        StmtKind::Wait { time } => write_call(out, Kind::Wait, time),
+        StmtKind::Wait { time } => write_call(out, Fixed::Wait, time),
         StmtKind::Io(io) => write_io(out, io),
-        StmtKind::Log { value } => write_call(out, Kind::Log, value),
+        StmtKind::Log { value } => write_call(out, Fixed::Log, value),
         StmtKind::If { test, yes, no } => {
             write_if(out, test)?;
             write_stmts(out, yes.as_slice())?;
             match no {
                 Some(no) => {
-                    out.sign(Kind::Else)?;
+                    out.sign(Fixed::Else)?;
                     write_stmts(out, no.as_slice())?;
-                    out.sign(Kind::EndIf)
+                    out.sign(Fixed::EndIf)
                 }
-                None => out.sign(Kind::EndIf),
+                None => out.sign(Fixed::EndIf),
             }
         }
         StmtKind::Pick { left, right } => {
             write_group(out, left.as_slice())?;
-            out.sign(Kind::PlusPlus)?;
+            out.sign(Fixed::PlusPlus)?;
             write_group(out, right.as_slice())
         }
         StmtKind::Forever { body } => {
             write_group(out, body.as_slice())?;
-            out.sign(Kind::StarStar)
+            out.sign(Fixed::StarStar)
         }
         StmtKind::Loop { test, body } => {
             write_group(out, body.as_slice())?;
@@ -109,46 +109,46 @@ fn write_stmt(out: &mut Writer, statement: &StmtTree) -> Result<(), AllocError>
 /// A loop's test.
 fn write_test(out: &mut Writer, test: &CondTree) -> Result<(), AllocError>
     ensures { OnOk result (Writes out.old out.new (λ w.
-        fixed Kind.OpenCurly ∷ cond (bare_cond test.now) Level.Alone (fixed Kind.CloseCurly ∷ fixed Kind.StarStar ∷ w))) }
+        fixed Fixed.OpenCurly ∷ cond (bare_cond test.now) Level.Alone (fixed Fixed.CloseCurly ∷ fixed Fixed.StarStar ∷ w))) }
 {
-    out.sign(Kind::OpenCurly)?;
+    out.sign(Fixed::OpenCurly)?;
     write_cond(out, test, Level::Alone)?;
-    out.sign(Kind::CloseCurly)?;
-    out.sign(Kind::StarStar)
+    out.sign(Fixed::CloseCurly)?;
+    out.sign(Fixed::StarStar)
 }
 
 /// An evolution's rates and its domain.
 fn write_motion(out: &mut Writer, rates: &[RateTree], domain: &CondTree) -> Result<(), AllocError>
     ensures { OnOk result (Writes out.old out.new (λ w.
-        fixed Kind.Less ∷ canon.rates (map bare_rate rates.now)
-        (fixed Kind.And ∷ cond (bare_cond domain.now) Level.Alone (fixed Kind.Greater ∷ w)))) }
+        fixed Fixed.Less ∷ canon.rates (map bare_rate rates.now)
+        (fixed Fixed.And ∷ cond (bare_cond domain.now) Level.Alone (fixed Fixed.Greater ∷ w)))) }
 {
-    out.sign(Kind::Less)?;
+    out.sign(Fixed::Less)?;
     write_rates(out, rates)?;
-    out.sign(Kind::And)?;
+    out.sign(Fixed::And)?;
     write_cond(out, domain, Level::Alone)?;
-    out.sign(Kind::Greater)
+    out.sign(Fixed::Greater)
 }
 
 /// A test before the statements where it holds.
 fn write_if(out: &mut Writer, test: &CondTree) -> Result<(), AllocError>
     ensures { OnOk result (Writes out.old out.new (λ w.
-        fixed Kind.If ∷ cond (bare_cond test.now) Level.Alone (fixed Kind.Then ∷ w))) }
+        fixed Fixed.If ∷ cond (bare_cond test.now) Level.Alone (fixed Fixed.Then ∷ w))) }
 {
-    out.sign(Kind::If)?;
+    out.sign(Fixed::If)?;
     write_cond(out, test, Level::Alone)?;
-    out.sign(Kind::Then)
+    out.sign(Fixed::Then)
 }
 
 /// A word and one expression in round brackets.
-fn write_call(out: &mut Writer, word: Kind, value: &ExprTree) -> Result<(), AllocError>
+fn write_call(out: &mut Writer, word: Fixed, value: &ExprTree) -> Result<(), AllocError>
     ensures { OnOk result (Writes out.old out.new (λ w.
-        fixed word ∷ fixed Kind.OpenRound ∷ expr (bare_expr value.now) Level.Alone (fixed Kind.CloseRound ∷ w))) }
+        fixed word ∷ fixed Fixed.OpenRound ∷ expr (bare_expr value.now) Level.Alone (fixed Fixed.CloseRound ∷ w))) }
 {
     out.sign(word)?;
-    out.sign(Kind::OpenRound)?;
+    out.sign(Fixed::OpenRound)?;
     write_expr(out, value, Level::Alone)?;
-    out.sign(Kind::CloseRound)
+    out.sign(Fixed::CloseRound)
 }
 
 /// Statements with semicolons between them.
@@ -162,7 +162,7 @@ pub(crate) fn write_stmts(out: &mut Writer, statements: &[StmtTree]) -> Result<(
     };
     write_stmt(out, first)?;
     for statement in more {
-        out.sign(Kind::Semicolon)?;
+        out.sign(Fixed::Semicolon)?;
         write_stmt(out, statement)?;
     }
     Ok(())
@@ -173,11 +173,11 @@ pub(crate) fn write_stmts(out: &mut Writer, statements: &[StmtTree]) -> Result<(
 #[tactic(auto, using(hc_ast::proofs::BareForms::forms))]
 fn write_group(out: &mut Writer, statements: &[StmtTree]) -> Result<(), AllocError>
     ensures { OnOk result (Writes out.old out.new (λ w.
-        fixed Kind.OpenRound ∷ canon.stmts (bare_stmts statements.now) (fixed Kind.CloseRound ∷ w))) }
+        fixed Fixed.OpenRound ∷ canon.stmts (bare_stmts statements.now) (fixed Fixed.CloseRound ∷ w))) }
 {
-    out.sign(Kind::OpenRound)?;
+    out.sign(Fixed::OpenRound)?;
     write_stmts(out, statements)?;
-    out.sign(Kind::CloseRound)
+    out.sign(Fixed::CloseRound)
 }
 
 /// A choice between branches.
@@ -185,13 +185,13 @@ fn write_group(out: &mut Writer, statements: &[StmtTree]) -> Result<(), AllocErr
 #[tactic(auto, using(hc_ast::proofs::BareForms::forms))]
 fn write_choice(out: &mut Writer, branches: &[BranchTree]) -> Result<(), AllocError>
     ensures { OnOk result (Writes out.old out.new (λ w.
-        fixed Kind.EmptySquare ∷ fixed Kind.OpenRound
-        ∷ canon.branches (bare_branches branches.now) (fixed Kind.CloseRound ∷ w))) }
+        fixed Fixed.EmptySquare ∷ fixed Fixed.OpenRound
+        ∷ canon.branches (bare_branches branches.now) (fixed Fixed.CloseRound ∷ w))) }
 {
-    out.sign(Kind::EmptySquare)?;
-    out.sign(Kind::OpenRound)?;
+    out.sign(Fixed::EmptySquare)?;
+    out.sign(Fixed::OpenRound)?;
     write_branches(out, branches)?;
-    out.sign(Kind::CloseRound)
+    out.sign(Fixed::CloseRound)
 }
 
 /// What may end an evolution.
@@ -203,7 +203,7 @@ fn write_interrupt(out: &mut Writer, branches: &[BranchTree]) -> Result<(), Allo
     if branches.is_empty() {
         return Ok(());
     }
-    out.sign(Kind::BarGreater)?;
+    out.sign(Fixed::BarGreater)?;
     write_choice(out, branches)
 }
 
@@ -218,7 +218,7 @@ fn write_branches(out: &mut Writer, branches: &[BranchTree]) -> Result<(), Alloc
     };
     write_branch(out, first)?;
     for branch in more {
-        out.sign(Kind::Comma)?;
+        out.sign(Fixed::Comma)?;
         write_branch(out, branch)?;
     }
     Ok(())
@@ -228,9 +228,9 @@ fn write_branches(out: &mut Writer, branches: &[BranchTree]) -> Result<(), Alloc
 #[tactic(auto, using(hc_ast::proofs::BareForms::forms))]
 fn write_branch(out: &mut Writer, branch: &BranchTree) -> Result<(), AllocError>
     ensures { OnOk result (Writes out.old out.new (λ w.
-        canon.io (bare_branch branch.now).0 (fixed Kind.Arrow ∷ canon.stmts (bare_branch branch.now).1 w))) }
+        canon.io (bare_branch branch.now).0 (fixed Fixed.Arrow ∷ canon.stmts (bare_branch branch.now).1 w))) }
 {
     write_io(out, &branch.io)?;
-    out.sign(Kind::Arrow)?;
+    out.sign(Fixed::Arrow)?;
     write_stmts(out, branch.body.as_slice())
 }

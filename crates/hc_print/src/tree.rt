@@ -12,7 +12,7 @@ use crate::level::Level;
 use crate::stmt::write_stmts;
 use crate::writer::Writer;
 use hc_ast::{Body, ExprTree, ModuleDef, Param, ParamKind, ProcessDef, Tree};
-use hc_token::Kind;
+use hc_token::Fixed;
 use std::alloc::{AllocError, Global};
 
 /// The canonical spelling of a tree that the grammar has.
@@ -35,11 +35,11 @@ pub fn print(alloc: Global, tree: &Tree) -> Result<Vec<u8>, AllocError>
 
 fn write_system(out: &mut Writer, processes: &[ProcessDef]) -> Result<(), AllocError>
     ensures { OnOk result (Writes out.old out.new (λ w.
-        fixed Kind.System ∷ canon.processes (map bare_process processes.now) (fixed Kind.EndSystem ∷ w))) }
+        fixed Fixed.System ∷ canon.processes (map bare_process processes.now) (fixed Fixed.EndSystem ∷ w))) }
 {
-    out.sign(Kind::System)?;
+    out.sign(Fixed::System)?;
     write_processes(out, processes)?;
-    out.sign(Kind::EndSystem)
+    out.sign(Fixed::EndSystem)
 }
 
 fn write_modules(out: &mut Writer, modules: &[ModuleDef]) -> Result<(), AllocError>
@@ -55,22 +55,22 @@ fn write_module(out: &mut Writer, definition: &ModuleDef) -> Result<(), AllocErr
     ensures { OnOk result (Writes out.old out.new (canon.module_of (bare_module definition.now))) }
 {
     write_head(out, definition)?;
-    out.sign(Kind::Begin)?;
+    out.sign(Fixed::Begin)?;
     write_stmts(out, definition.body.as_slice())?;
-    out.sign(Kind::EndBody)?;
-    out.sign(Kind::EndModule)
+    out.sign(Fixed::EndBody)?;
+    out.sign(Fixed::EndModule)
 }
 
 /// A module up to its colon.
 fn write_head(out: &mut Writer, definition: &ModuleDef) -> Result<(), AllocError>
     ensures { OnOk result (Writes out.old out.new (canon.head (bare_module definition.now))) }
 {
-    out.sign(Kind::Module)?;
+    out.sign(Fixed::Module)?;
     out.name(&definition.name)?;
-    out.sign(Kind::OpenRound)?;
+    out.sign(Fixed::OpenRound)?;
     write_params(out, definition.params.as_slice())?;
-    out.sign(Kind::CloseRound)?;
-    out.sign(Kind::Colon)
+    out.sign(Fixed::CloseRound)?;
+    out.sign(Fixed::Colon)
 }
 
 /// Parameters with commas between them.
@@ -82,7 +82,7 @@ fn write_params(out: &mut Writer, params: &[Param]) -> Result<(), AllocError>
     };
     write_param(out, first)?;
     for param in more {
-        out.sign(Kind::Comma)?;
+        out.sign(Fixed::Comma)?;
         write_param(out, param)?;
     }
     Ok(())
@@ -92,8 +92,8 @@ fn write_param(out: &mut Writer, param: &Param) -> Result<(), AllocError>
     ensures { OnOk result (Writes out.old out.new (canon.param (bare_param param.now))) }
 {
     match param.kind {
-        ParamKind::Channel => out.sign(Kind::Ch)?,
-        ParamKind::Value => out.sign(Kind::Val)?,
+        ParamKind::Channel => out.sign(Fixed::Ch)?,
+        ParamKind::Value => out.sign(Fixed::Val)?,
     }
     out.name(&param.name)
 }
@@ -107,7 +107,7 @@ fn write_processes(out: &mut Writer, processes: &[ProcessDef]) -> Result<(), All
     };
     write_process(out, first)?;
     for process in more {
-        out.sign(Kind::BarBar)?;
+        out.sign(Fixed::BarBar)?;
         write_process(out, process)?;
     }
     Ok(())
@@ -117,7 +117,7 @@ fn write_process(out: &mut Writer, process: &ProcessDef) -> Result<(), AllocErro
     ensures { OnOk result (Writes out.old out.new (canon.process (bare_process process.now))) }
 {
     out.name(&process.name)?;
-    out.sign(Kind::Equal)?;
+    out.sign(Fixed::Equal)?;
     write_body(out, &process.body)
 }
 
@@ -126,9 +126,9 @@ fn write_body(out: &mut Writer, body: &Body) -> Result<(), AllocError>
 {
     match body {
         Body::Inline(statements) => {
-            out.sign(Kind::OpenRound)?;
+            out.sign(Fixed::OpenRound)?;
             write_stmts(out, statements.as_slice())?;
-            out.sign(Kind::CloseRound)
+            out.sign(Fixed::CloseRound)
         }
         Body::Call {
             module,
@@ -136,9 +136,9 @@ fn write_body(out: &mut Writer, body: &Body) -> Result<(), AllocError>
             ..
         } => {
             out.name(module)?;
-            out.sign(Kind::OpenRound)?;
+            out.sign(Fixed::OpenRound)?;
             write_arguments(out, arguments.as_slice())?;
-            out.sign(Kind::CloseRound)
+            out.sign(Fixed::CloseRound)
         }
     }
 }
@@ -152,7 +152,7 @@ fn write_arguments(out: &mut Writer, arguments: &[ExprTree]) -> Result<(), Alloc
     };
     write_expr(out, first, Level::Alone)?;
     for argument in more {
-        out.sign(Kind::Comma)?;
+        out.sign(Fixed::Comma)?;
         write_expr(out, argument, Level::Alone)?;
     }
     Ok(())

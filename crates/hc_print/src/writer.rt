@@ -7,7 +7,7 @@ ghost use Rattle.hc_print.specs.Appends.{Appends, Writes};
 
 use crate::sign::blank;
 use hc_frac::{Decimal, Name};
-use hc_token::Kind;
+use hc_token::Fixed;
 use itoa::Buffer;
 use std::alloc::{AllocError, Global};
 
@@ -20,19 +20,19 @@ pub(crate) struct Writer {
 impl Writer {
     /// A keyword or a sign.
     #[tactic(auto, unfolding(crate::specs::Written::written))]
-    pub(crate) fn sign(&mut self, kind: Kind) -> Result<(), AllocError>
-        ensures { OnOk result (Writes self.old self.new (λ w. fixed kind ∷ w)) }
+    pub(crate) fn sign(&mut self, sign: Fixed) -> Result<(), AllocError>
+        ensures { OnOk result (Writes self.old self.new (λ w. fixed sign ∷ w)) }
     {
-        self.text(kind.text())?;
-        self.byte(blank(kind))
+        self.text(sign.text())?;
+        self.byte(blank(sign))
     }
 
     /// A keyword or a sign where it is needed.
-    pub(crate) fn sign_if(&mut self, is_needed: bool, kind: Kind) -> Result<(), AllocError>
-        ensures { OnOk result (Writes self.old self.new (only_if is_needed kind)) }
+    pub(crate) fn sign_if(&mut self, is_needed: bool, sign: Fixed) -> Result<(), AllocError>
+        ensures { OnOk result (Writes self.old self.new (only_if is_needed sign)) }
     {
         if is_needed {
-            self.sign(kind)?;
+            self.sign(sign)?;
         }
         Ok(())
     }

@@ -1,3 +1,4 @@
+pub mod Leaves
 pub mod Tabled
 pub mod Derive
 pub mod DeriveStmts

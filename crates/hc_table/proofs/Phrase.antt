@@ -1,11 +1,11 @@
 -- The text of the grammar that each phrase of the table is.
 use Rattle.std.proofs.Common.{◌≡◌}
-use Rattle.hc_token.specs.declared.kind.Kind.TheVariants as k
+use Rattle.hc_token.specs.declared.fixed.Fixed.TheVariants as fix
 use Rattle.hc_ast.specs.declared.role.Role.TheVariants as r
 use Rattle.hc_ast.specs.declared.role.Mark.TheVariants as m
 use Rattle.hc_grammar.specs.Texts.{Read, Did}
 use Rattle.std.proofs.Common.{◌∷◌}
-use Rattle.hc_ast.specs.Leaves.{Spelled, OfKind, OfSign, comparison}
+use Rattle.hc_ast.specs.Leaves.{Spelled, OfFixed, OfName, OfSign, comparison}
 use Rattle.hc_ast.specs.Exprs as ex
 use Rattle.hc_ast.specs.Conds as co
 use Rattle.hc_ast.specs.Stmts as st
@@ -17,25 +17,25 @@ use Rattle.hc_table.specs.declared.head.Head.TheVariants as h
 
 -- what follows the name that a statement begins with
 pub data NamedRest : Type 0 where
-  assigned : OfKind k.ColonEqual → ex.Expr → NamedRest
-  sent : OfKind k.Exclamation → ex.Expr → NamedRest
-  received : OfKind k.Question → OfKind k.Name → NamedRest
+  assigned : OfFixed fix.ColonEqual → ex.Expr → NamedRest
+  sent : OfFixed fix.Exclamation → ex.Expr → NamedRest
+  received : OfFixed fix.Question → OfName → NamedRest
 
 -- what follows the statements behind `then`
 pub data ElseRest : Type 0 where
-  ended : OfKind k.EndIf → ElseRest
-  other : OfKind k.Else → st.Seq → OfKind k.EndIf → ElseRest
+  ended : OfFixed fix.EndIf → ElseRest
+  other : OfFixed fix.Else → st.Seq → OfFixed fix.EndIf → ElseRest
 
 -- what follows a group of statements
 pub data AfterRest : Type 0 where
-  again : OfKind k.StarStar → AfterRest
-  or_group : OfKind k.PlusPlus → OfKind k.OpenRound → st.Seq → OfKind k.CloseRound → AfterRest
-  tested : OfKind k.OpenCurly → co.Cond → OfKind k.CloseCurly → OfKind k.StarStar → AfterRest
+  again : OfFixed fix.StarStar → AfterRest
+  or_group : OfFixed fix.PlusPlus → OfFixed fix.OpenRound → st.Seq → OfFixed fix.CloseRound → AfterRest
+  tested : OfFixed fix.OpenCurly → co.Cond → OfFixed fix.CloseCurly → OfFixed fix.StarStar → AfterRest
 
 -- what follows `=` in a process
 pub data BodyRest : Type 0 where
-  own : OfKind k.OpenRound → st.Seq → OfKind k.CloseRound → BodyRest
-  called : OfKind k.Name → OfKind k.OpenRound → so.Arguments → OfKind k.CloseRound → BodyRest
+  own : OfFixed fix.OpenRound → st.Seq → OfFixed fix.CloseRound → BodyRest
+  called : OfName → OfFixed fix.OpenRound → so.Arguments → OfFixed fix.CloseRound → BodyRest
 
 abbrev pub named_rest : NamedRest → Spelled → Spelled
 named_rest (assigned s e) w = Read s.0 r.Plain ∷ Did m.Fresh ∷ ex.expr e (Did m.Assign ∷ w)
@@ -60,8 +60,8 @@ body_rest (called y a es b) w =
 
 -- a communication behind its name
 pub data MeetRest : Type 0 where
-  offered : OfKind k.Exclamation → ex.Expr → MeetRest
-  taken : OfKind k.Question → OfKind k.Name → MeetRest
+  offered : OfFixed fix.Exclamation → ex.Expr → MeetRest
+  taken : OfFixed fix.Question → OfName → MeetRest
 
 abbrev pub meet_rest : MeetRest → Spelled → Spelled
 meet_rest (offered s e) w = Read s.0 r.Plain ∷ Did m.Fresh ∷ ex.expr e (Did m.Send ∷ w)
@@ -70,14 +70,14 @@ meet_rest (taken s y) w = Read s.0 r.Plain ∷ Read y.0 r.Keep ∷ Did m.Receive
 -- the phrase w is a text of its part of the grammar, and then v
 abbrev pub Phrase : Head → Spelled → Spelled → Type 0
 Phrase h.Source w v = (x : so.Source) × (w ≡ write.source x v)
-Phrase h.Params w v = (x : so.Params) × (b : OfKind k.CloseRound) × (w ≡ write.params x (Read b.0 r.Plain ∷ v))
-Phrase h.MoreParams w v = (x : so.MoreParams) × (b : OfKind k.CloseRound) × (w ≡ write.more_params x (Read b.0 r.Plain ∷ v))
+Phrase h.Params w v = (x : so.Params) × (b : OfFixed fix.CloseRound) × (w ≡ write.params x (Read b.0 r.Plain ∷ v))
+Phrase h.MoreParams w v = (x : so.MoreParams) × (b : OfFixed fix.CloseRound) × (w ≡ write.more_params x (Read b.0 r.Plain ∷ v))
 Phrase h.Param w v = (x : so.Param) × (w ≡ write.param x v)
 Phrase h.Process w v = (x : so.Process) × (w ≡ write.process x v)
 Phrase h.ProcessBody w v = (x : BodyRest) × (w ≡ body_rest x v)
-Phrase h.Processes w v = (x : so.Processes) × (b : OfKind k.EndSystem) × (w ≡ write.processes x (Read b.0 r.Plain ∷ v))
-Phrase h.Arguments w v = (x : so.Arguments) × (b : OfKind k.CloseRound) × (w ≡ write.arguments x (Read b.0 r.Plain ∷ v))
-Phrase h.MoreArguments w v = (x : so.MoreArguments) × (b : OfKind k.CloseRound) × (w ≡ write.more_arguments x (Read b.0 r.Plain ∷ v))
+Phrase h.Processes w v = (x : so.Processes) × (b : OfFixed fix.EndSystem) × (w ≡ write.processes x (Read b.0 r.Plain ∷ v))
+Phrase h.Arguments w v = (x : so.Arguments) × (b : OfFixed fix.CloseRound) × (w ≡ write.arguments x (Read b.0 r.Plain ∷ v))
+Phrase h.MoreArguments w v = (x : so.MoreArguments) × (b : OfFixed fix.CloseRound) × (w ≡ write.more_arguments x (Read b.0 r.Plain ∷ v))
 Phrase h.Seq w v = (x : st.Stmt) × (xs : st.More) × (w ≡ spell.stmt x (spell.more xs v))
 Phrase h.Expr w v = (x : ex.Expr) × (w ≡ ex.expr x v)
 Phrase h.Term w v = (x : ex.Term) × (w ≡ ex.term x v)
@@ -89,10 +89,10 @@ Phrase h.Else w v = (x : ElseRest) × (w ≡ else_rest x v)
 Phrase h.After w v = (x : AfterRest) × (w ≡ after_rest x v)
 Phrase h.Branch w v = (x : st.Branch) × (w ≡ spell.branch x v)
 Phrase h.Meet w v = (x : MeetRest) × (w ≡ meet_rest x v)
-Phrase h.Branches w v = (x : st.Branches) × (b : OfKind k.CloseRound) × (w ≡ spell.branches x (Read b.0 r.Close ∷ v))
+Phrase h.Branches w v = (x : st.Branches) × (b : OfFixed fix.CloseRound) × (w ≡ spell.branches x (Read b.0 r.Close ∷ v))
 Phrase h.Rate w v = (x : st.Rate) × (w ≡ spell.rate x v)
 Phrase h.Rates w v =
-    (x : st.Rates) × (t : OfKind k.And) × (c : co.Cond) × (b : OfKind k.Greater)
+    (x : st.Rates) × (t : OfFixed fix.And) × (c : co.Cond) × (b : OfFixed fix.Greater)
     × (w ≡ spell.rates x (Read t.0 r.Plain ∷ Did m.Fresh ∷ co.cond c (Read b.0 r.Close ∷ v)))
 Phrase h.Interrupt w v = (x : st.Interrupt) × (w ≡ spell.interrupt x v)
 Phrase h.More w v = (x : st.More) × (w ≡ spell.more x v)

@@ -5,6 +5,7 @@ use Rattle.hc_grammar.specs.Ll1.{fits, IsLl1}
 use Rattle.hc_grammar.specs.Ends.{closes_by, EndsBy}
 use Rattle.hc_grammar.proofs.Tables.{IsListed, all_listed, good, alike, is_ll1, ends_by}
 use Rattle.hc_token.specs.declared.kind.Kind.{Kind}
+use Rattle.hc_token.specs.declared.fixed.Fixed.TheVariants as fix
 use Rattle.hc_token.specs.declared.kind.Kind.TheVariants as k
 use Rattle.hc_table.specs.declared.head.Head.{Head}
 use Rattle.hc_table.specs.declared.head.Head.TheVariants as h
@@ -13,12 +14,12 @@ use Rattle.hc_table.specs.Table.{number, table, start}
 -- all kinds, and all phrases
 abbrev pub kinds : List Kind
 kinds =
-    k.Module ∷ k.EndModule ∷ k.Begin ∷ k.EndBody ∷ k.System ∷ k.EndSystem ∷ k.Ch ∷ k.Val
-    ∷ k.Skip ∷ k.Wait ∷ k.Log ∷ k.If ∷ k.Then ∷ k.Else ∷ k.EndIf ∷ k.True
-    ∷ k.False ∷ k.Arrow ∷ k.ColonEqual ∷ k.BarBar ∷ k.BarGreater ∷ k.PlusPlus ∷ k.StarStar ∷ k.EmptySquare
-    ∷ k.AndAnd ∷ k.LessEqual ∷ k.GreaterEqual ∷ k.EqualEqual ∷ k.NotEqual ∷ k.OpenRound ∷ k.CloseRound ∷ k.OpenCurly
-    ∷ k.CloseCurly ∷ k.OpenSquare ∷ k.CloseSquare ∷ k.Less ∷ k.Greater ∷ k.Comma ∷ k.Semicolon ∷ k.Colon
-    ∷ k.Equal ∷ k.And ∷ k.Exclamation ∷ k.Question ∷ k.Plus ∷ k.Minus ∷ k.Star ∷ k.Slash
+    (k.Fixed fix.Module) ∷ (k.Fixed fix.EndModule) ∷ (k.Fixed fix.Begin) ∷ (k.Fixed fix.EndBody) ∷ (k.Fixed fix.System) ∷ (k.Fixed fix.EndSystem) ∷ (k.Fixed fix.Ch) ∷ (k.Fixed fix.Val)
+    ∷ (k.Fixed fix.Skip) ∷ (k.Fixed fix.Wait) ∷ (k.Fixed fix.Log) ∷ (k.Fixed fix.If) ∷ (k.Fixed fix.Then) ∷ (k.Fixed fix.Else) ∷ (k.Fixed fix.EndIf) ∷ (k.Fixed fix.True)
+    ∷ (k.Fixed fix.False) ∷ (k.Fixed fix.Arrow) ∷ (k.Fixed fix.ColonEqual) ∷ (k.Fixed fix.BarBar) ∷ (k.Fixed fix.BarGreater) ∷ (k.Fixed fix.PlusPlus) ∷ (k.Fixed fix.StarStar) ∷ (k.Fixed fix.EmptySquare)
+    ∷ (k.Fixed fix.AndAnd) ∷ (k.Fixed fix.LessEqual) ∷ (k.Fixed fix.GreaterEqual) ∷ (k.Fixed fix.EqualEqual) ∷ (k.Fixed fix.NotEqual) ∷ (k.Fixed fix.OpenRound) ∷ (k.Fixed fix.CloseRound) ∷ (k.Fixed fix.OpenCurly)
+    ∷ (k.Fixed fix.CloseCurly) ∷ (k.Fixed fix.OpenSquare) ∷ (k.Fixed fix.CloseSquare) ∷ (k.Fixed fix.Less) ∷ (k.Fixed fix.Greater) ∷ (k.Fixed fix.Comma) ∷ (k.Fixed fix.Semicolon) ∷ (k.Fixed fix.Colon)
+    ∷ (k.Fixed fix.Equal) ∷ (k.Fixed fix.And) ∷ (k.Fixed fix.Exclamation) ∷ (k.Fixed fix.Question) ∷ (k.Fixed fix.Plus) ∷ (k.Fixed fix.Minus) ∷ (k.Fixed fix.Star) ∷ (k.Fixed fix.Slash)
     ∷ k.Name ∷ k.Rate ∷ k.Number ∷ k.End ∷ k.LongWord ∷ k.LargeNumber ∷ k.Other ∷ []
 
 abbrev pub heads : List Head
@@ -62,8 +63,19 @@ head_number h.Ands = 29
 head_number h.One = 30
 head_number h.Compare = 31
 
-pub kind_at : (kind : Kind) → slice_get kinds (number kind) ≡ Some kind
-kind_at k.Module = refl
+-- where a kind stands among them
+abbrev pub place : Kind → ℕ
+place (k.Fixed one) = number one
+place k.Name = 48
+place k.Rate = 49
+place k.Number = 50
+place k.End = 51
+place k.LongWord = 52
+place k.LargeNumber = 53
+place k.Other = 54
+
+pub kind_at : (kind : Kind) → slice_get kinds (place kind) ≡ Some kind
+kind_at (k.Fixed fix.Module) = refl
 kind_at _ = refl
 
 head_at : (head : Head) → slice_get heads (head_number head) ≡ Some head
@@ -71,7 +83,7 @@ head_at h.Source = refl
 head_at _ = refl
 
 pub kinds_listed : IsListed kinds
-kinds_listed = record { number = number; at = kind_at }
+kinds_listed = record { number = place; at = kind_at }
 
 pub heads_listed : IsListed heads
 heads_listed = record { number = head_number; at = head_at }

@@ -3,6 +3,8 @@ use Rattle.std.specs.Prelude.{Option, None, ℕ, Bool, true, false, ◌||◌, �
 use Rattle.hc_grammar.specs.declared.symbol.Symbol.TheVariants as symbol
 use Rattle.hc_grammar.specs.Table.{Table}
 use Rattle.hc_token.specs.declared.kind.Kind.{Kind}
+use Rattle.hc_token.specs.declared.fixed.Fixed.{Fixed}
+use Rattle.hc_token.specs.declared.fixed.Fixed.TheVariants as fix
 use Rattle.hc_token.specs.declared.kind.Kind.TheVariants as k
 use Rattle.hc_ast.specs.declared.role.Role.{Role}
 use Rattle.hc_ast.specs.declared.role.Role.TheVariants as r
@@ -12,67 +14,68 @@ use Rattle.hc_table.specs.declared.head.Head.TheVariants as h
 use Rattle.hc_table.specs.Symbols.{Rule, Row}
 use Rattle.hc_table.specs.Rows.{source, params, more_params, param_then, process, process_body, processes, arguments, more_arguments, seq, stmt, named, else_part, after, branch, meet, branches, rate, rates, interrupt, more, expr, sums, term, products, factor, cond, ors, both, ands, one, compare}
 
--- kinds by numbers, so that they can be told apart
-abbrev pub number : Kind → ℕ
-number k.Module = 0
-number k.EndModule = 1
-number k.Begin = 2
-number k.EndBody = 3
-number k.System = 4
-number k.EndSystem = 5
-number k.Ch = 6
-number k.Val = 7
-number k.Skip = 8
-number k.Wait = 9
-number k.Log = 10
-number k.If = 11
-number k.Then = 12
-number k.Else = 13
-number k.EndIf = 14
-number k.True = 15
-number k.False = 16
-number k.Arrow = 17
-number k.ColonEqual = 18
-number k.BarBar = 19
-number k.BarGreater = 20
-number k.PlusPlus = 21
-number k.StarStar = 22
-number k.EmptySquare = 23
-number k.AndAnd = 24
-number k.LessEqual = 25
-number k.GreaterEqual = 26
-number k.EqualEqual = 27
-number k.NotEqual = 28
-number k.OpenRound = 29
-number k.CloseRound = 30
-number k.OpenCurly = 31
-number k.CloseCurly = 32
-number k.OpenSquare = 33
-number k.CloseSquare = 34
-number k.Less = 35
-number k.Greater = 36
-number k.Comma = 37
-number k.Semicolon = 38
-number k.Colon = 39
-number k.Equal = 40
-number k.And = 41
-number k.Exclamation = 42
-number k.Question = 43
-number k.Plus = 44
-number k.Minus = 45
-number k.Star = 46
-number k.Slash = 47
-number k.Name = 48
-number k.Rate = 49
-number k.Number = 50
-number k.End = 51
-number k.LongWord = 52
-number k.LargeNumber = 53
-number k.Other = 54
+-- keywords and signs by numbers, so that they can be told apart
+abbrev pub number : Fixed → ℕ
+number fix.Module = 0
+number fix.EndModule = 1
+number fix.Begin = 2
+number fix.EndBody = 3
+number fix.System = 4
+number fix.EndSystem = 5
+number fix.Ch = 6
+number fix.Val = 7
+number fix.Skip = 8
+number fix.Wait = 9
+number fix.Log = 10
+number fix.If = 11
+number fix.Then = 12
+number fix.Else = 13
+number fix.EndIf = 14
+number fix.True = 15
+number fix.False = 16
+number fix.Arrow = 17
+number fix.ColonEqual = 18
+number fix.BarBar = 19
+number fix.BarGreater = 20
+number fix.PlusPlus = 21
+number fix.StarStar = 22
+number fix.EmptySquare = 23
+number fix.AndAnd = 24
+number fix.LessEqual = 25
+number fix.GreaterEqual = 26
+number fix.EqualEqual = 27
+number fix.NotEqual = 28
+number fix.OpenRound = 29
+number fix.CloseRound = 30
+number fix.OpenCurly = 31
+number fix.CloseCurly = 32
+number fix.OpenSquare = 33
+number fix.CloseSquare = 34
+number fix.Less = 35
+number fix.Greater = 36
+number fix.Comma = 37
+number fix.Semicolon = 38
+number fix.Colon = 39
+number fix.Equal = 40
+number fix.And = 41
+number fix.Exclamation = 42
+number fix.Question = 43
+number fix.Plus = 44
+number fix.Minus = 45
+number fix.Star = 46
+number fix.Slash = 47
 
 -- a token of a kind is taken where that kind is wanted
 abbrev pub same : Kind → Kind → Bool
-same wanted kind = number wanted == number kind
+same (k.Fixed wanted) (k.Fixed one) = number wanted == number one
+same k.Name k.Name = true
+same k.Rate k.Rate = true
+same k.Number k.Number = true
+same k.End k.End = true
+same k.LongWord k.LongWord = true
+same k.LargeNumber k.LargeNumber = true
+same k.Other k.Other = true
+same _ _ = false
 
 -- what each phrase is before a token
 abbrev pub entry : Head → Kind → Row
@@ -125,60 +128,60 @@ left_out head = None
 
 -- what may come behind a sequence, a statement, a condition and an expression
 abbrev pub follow_seq : Kind → Bool
-follow_seq k.CloseRound = true
-follow_seq k.EndBody = true
-follow_seq k.Else = true
-follow_seq k.EndIf = true
-follow_seq k.Comma = true
+follow_seq (k.Fixed fix.CloseRound) = true
+follow_seq (k.Fixed fix.EndBody) = true
+follow_seq (k.Fixed fix.Else) = true
+follow_seq (k.Fixed fix.EndIf) = true
+follow_seq (k.Fixed fix.Comma) = true
 follow_seq _ = false
 
 abbrev pub follow_stmt : Kind → Bool
-follow_stmt k.Semicolon = true
+follow_stmt (k.Fixed fix.Semicolon) = true
 follow_stmt kind = follow_seq kind
 
 abbrev pub follow_cond : Kind → Bool
-follow_cond k.Then = true
-follow_cond k.CloseCurly = true
-follow_cond k.CloseSquare = true
-follow_cond k.Greater = true
+follow_cond (k.Fixed fix.Then) = true
+follow_cond (k.Fixed fix.CloseCurly) = true
+follow_cond (k.Fixed fix.CloseSquare) = true
+follow_cond (k.Fixed fix.Greater) = true
 follow_cond _ = false
 
 abbrev pub follow_both : Kind → Bool
-follow_both k.BarBar = true
+follow_both (k.Fixed fix.BarBar) = true
 follow_both kind = follow_cond kind
 
 abbrev pub follow_one : Kind → Bool
-follow_one k.AndAnd = true
+follow_one (k.Fixed fix.AndAnd) = true
 follow_one kind = follow_both kind
 
 abbrev pub follow_expr : Kind → Bool
-follow_expr k.Arrow = true
-follow_expr k.And = true
-follow_expr k.Less = true
-follow_expr k.LessEqual = true
-follow_expr k.EqualEqual = true
-follow_expr k.NotEqual = true
-follow_expr k.GreaterEqual = true
+follow_expr (k.Fixed fix.Arrow) = true
+follow_expr (k.Fixed fix.And) = true
+follow_expr (k.Fixed fix.Less) = true
+follow_expr (k.Fixed fix.LessEqual) = true
+follow_expr (k.Fixed fix.EqualEqual) = true
+follow_expr (k.Fixed fix.NotEqual) = true
+follow_expr (k.Fixed fix.GreaterEqual) = true
 follow_expr kind = follow_one kind || follow_stmt kind
 
 abbrev pub follow_term : Kind → Bool
-follow_term k.Plus = true
-follow_term k.Minus = true
+follow_term (k.Fixed fix.Plus) = true
+follow_term (k.Fixed fix.Minus) = true
 follow_term kind = follow_expr kind
 
 -- what may come behind a branch, its communication and a rate
 abbrev pub follow_branch : Kind → Bool
-follow_branch k.Comma = true
-follow_branch k.CloseRound = true
+follow_branch (k.Fixed fix.Comma) = true
+follow_branch (k.Fixed fix.CloseRound) = true
 follow_branch _ = false
 
 abbrev pub follow_io : Kind → Bool
-follow_io k.Arrow = true
+follow_io (k.Fixed fix.Arrow) = true
 follow_io _ = false
 
 abbrev pub follow_rate : Kind → Bool
-follow_rate k.Comma = true
-follow_rate k.And = true
+follow_rate (k.Fixed fix.Comma) = true
+follow_rate (k.Fixed fix.And) = true
 follow_rate _ = false
 
 -- what may come behind a phrase that may be empty, or that may end in one

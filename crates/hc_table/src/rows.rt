@@ -12,7 +12,7 @@ use crate::head::Head;
 use hc_ast::{Mark, Role};
 use hc_grammar::Row as Found;
 use hc_grammar::Symbol::{self, Head as Phrase, Mark as Did, Token as Wants};
-use hc_token::Kind;
+use hc_token::{Fixed, Kind};
 
 /// A symbol of the source language.
 pub type Rule = Symbol<Kind, Head, Role, Mark>;
@@ -72,14 +72,17 @@ fn factor(kind: Kind, more: &'static [Rule]) -> Row
 {
     match kind {
         Kind::Number | Kind::Name => Row::Takes(Role::Leaf, &[], more),
-        Kind::Minus => Row::Takes(
+        Kind::Fixed(Fixed::Minus) => Row::Takes(
             Role::Prefix,
             &[Phrase(Head::Factor), Did(Mark::Negate)],
             more,
         ),
-        Kind::OpenRound => Row::Takes(
+        Kind::Fixed(Fixed::OpenRound) => Row::Takes(
             Role::Open,
-            &[Phrase(Head::Expr), Wants(Kind::CloseRound, Role::Close)],
+            &[
+                Phrase(Head::Expr),
+                Wants(Kind::Fixed(Fixed::CloseRound), Role::Close),
+            ],
             more,
         ),
         _ => Row::Refuses,
@@ -91,24 +94,24 @@ fn source(kind: Kind) -> Row
     ensures { row_of result ≡ spec.source kind }
 {
     match kind {
-        Kind::Module => takes(
+        Kind::Fixed(Fixed::Module) => takes(
             Role::Plain,
             &[
                 Wants(Kind::Name, Role::Keep),
-                Wants(Kind::OpenRound, Role::Plain),
+                Wants(Kind::Fixed(Fixed::OpenRound), Role::Plain),
                 Did(Mark::Params),
                 Phrase(Head::Params),
-                Wants(Kind::Colon, Role::Plain),
-                Wants(Kind::Begin, Role::Plain),
+                Wants(Kind::Fixed(Fixed::Colon), Role::Plain),
+                Wants(Kind::Fixed(Fixed::Begin), Role::Plain),
                 Did(Mark::Body),
                 Phrase(Head::Seq),
-                Wants(Kind::EndBody, Role::Plain),
-                Wants(Kind::EndModule, Role::Plain),
+                Wants(Kind::Fixed(Fixed::EndBody), Role::Plain),
+                Wants(Kind::Fixed(Fixed::EndModule), Role::Plain),
                 Did(Mark::Module),
                 Phrase(Head::Source),
             ],
         ),
-        Kind::System => takes(
+        Kind::Fixed(Fixed::System) => takes(
             Role::Plain,
             &[Phrase(Head::Process), Phrase(Head::Processes)],
         ),
@@ -121,8 +124,8 @@ fn params(kind: Kind) -> Row
     ensures { row_of result ≡ spec.params kind }
 {
     match kind {
-        Kind::CloseRound => takes(Role::Plain, &[]),
-        Kind::Ch | Kind::Val => takes(
+        Kind::Fixed(Fixed::CloseRound) => takes(Role::Plain, &[]),
+        Kind::Fixed(Fixed::Ch) | Kind::Fixed(Fixed::Val) => takes(
             Role::Keep,
             &[
                 Wants(Kind::Name, Role::Keep),
@@ -139,8 +142,8 @@ fn more_params(kind: Kind) -> Row
     ensures { row_of result ≡ spec.more_params kind }
 {
     match kind {
-        Kind::CloseRound => takes(Role::Plain, &[]),
-        Kind::Comma => takes(
+        Kind::Fixed(Fixed::CloseRound) => takes(Role::Plain, &[]),
+        Kind::Fixed(Fixed::Comma) => takes(
             Role::Plain,
             &[Phrase(Head::Param), Phrase(Head::MoreParams)],
         ),
@@ -153,7 +156,7 @@ fn param(kind: Kind) -> Row
     ensures { row_of result ≡ spec.param_then [] kind }
 {
     match kind {
-        Kind::Ch | Kind::Val => takes(
+        Kind::Fixed(Fixed::Ch) | Kind::Fixed(Fixed::Val) => takes(
             Role::Keep,
             &[Wants(Kind::Name, Role::Keep), Did(Mark::Param)],
         ),
@@ -168,7 +171,10 @@ fn process(kind: Kind) -> Row
     match kind {
         Kind::Name => takes(
             Role::Keep,
-            &[Wants(Kind::Equal, Role::Plain), Phrase(Head::ProcessBody)],
+            &[
+                Wants(Kind::Fixed(Fixed::Equal), Role::Plain),
+                Phrase(Head::ProcessBody),
+            ],
         ),
         _ => Row::Refuses,
     }
@@ -179,19 +185,19 @@ fn process_body(kind: Kind) -> Row
     ensures { row_of result ≡ spec.process_body kind }
 {
     match kind {
-        Kind::OpenRound => takes(
+        Kind::Fixed(Fixed::OpenRound) => takes(
             Role::Plain,
             &[
                 Did(Mark::Body),
                 Phrase(Head::Seq),
-                Wants(Kind::CloseRound, Role::Plain),
+                Wants(Kind::Fixed(Fixed::CloseRound), Role::Plain),
                 Did(Mark::Inline),
             ],
         ),
         Kind::Name => takes(
             Role::Keep,
             &[
-                Wants(Kind::OpenRound, Role::Plain),
+                Wants(Kind::Fixed(Fixed::OpenRound), Role::Plain),
                 Did(Mark::Arguments),
                 Did(Mark::Fresh),
                 Phrase(Head::Arguments),
@@ -207,11 +213,11 @@ fn processes(kind: Kind) -> Row
     ensures { row_of result ≡ spec.processes kind }
 {
     match kind {
-        Kind::BarBar => takes(
+        Kind::Fixed(Fixed::BarBar) => takes(
             Role::Plain,
             &[Phrase(Head::Process), Phrase(Head::Processes)],
         ),
-        Kind::EndSystem => takes(Role::Plain, &[]),
+        Kind::Fixed(Fixed::EndSystem) => takes(Role::Plain, &[]),
         _ => Row::Refuses,
     }
 }
@@ -221,7 +227,7 @@ fn arguments(kind: Kind) -> Row
     ensures { row_of result ≡ spec.arguments kind }
 {
     match kind {
-        Kind::CloseRound => takes(Role::Plain, &[]),
+        Kind::Fixed(Fixed::CloseRound) => takes(Role::Plain, &[]),
         _ => factor(
             kind,
             &[
@@ -239,8 +245,8 @@ fn more_arguments(kind: Kind) -> Row
     ensures { row_of result ≡ spec.more_arguments kind }
 {
     match kind {
-        Kind::CloseRound => takes(Role::Plain, &[]),
-        Kind::Comma => takes(
+        Kind::Fixed(Fixed::CloseRound) => takes(Role::Plain, &[]),
+        Kind::Fixed(Fixed::Comma) => takes(
             Role::Plain,
             &[
                 Did(Mark::Fresh),
@@ -258,48 +264,48 @@ fn stmt_then(kind: Kind, more: &'static [Rule]) -> Row
     ensures { row_of result ≡ with_more more.now (spec.stmt kind) }
 {
     match kind {
-        Kind::Skip => Row::Takes(Role::Keep, &[Did(Mark::Skip)], more),
+        Kind::Fixed(Fixed::Skip) => Row::Takes(Role::Keep, &[Did(Mark::Skip)], more),
         Kind::Name => Row::Takes(Role::Keep, &[Phrase(Head::Named)], more),
-        Kind::Wait => Row::Takes(
+        Kind::Fixed(Fixed::Wait) => Row::Takes(
             Role::Keep,
             &[
-                Wants(Kind::OpenRound, Role::Plain),
+                Wants(Kind::Fixed(Fixed::OpenRound), Role::Plain),
                 Did(Mark::Fresh),
                 Phrase(Head::Expr),
-                Wants(Kind::CloseRound, Role::Plain),
+                Wants(Kind::Fixed(Fixed::CloseRound), Role::Plain),
                 Did(Mark::Wait),
             ],
             more,
         ),
-        Kind::Log => Row::Takes(
+        Kind::Fixed(Fixed::Log) => Row::Takes(
             Role::Keep,
             &[
-                Wants(Kind::OpenRound, Role::Plain),
+                Wants(Kind::Fixed(Fixed::OpenRound), Role::Plain),
                 Did(Mark::Fresh),
                 Phrase(Head::Expr),
-                Wants(Kind::CloseRound, Role::Plain),
+                Wants(Kind::Fixed(Fixed::CloseRound), Role::Plain),
                 Did(Mark::Log),
             ],
             more,
         ),
-        Kind::If => word_if(more),
-        Kind::OpenRound => group(more),
-        Kind::EmptySquare => sign_of_choice(more),
-        Kind::Less => evolution(more),
+        Kind::Fixed(Fixed::If) => word_if(more),
+        Kind::Fixed(Fixed::OpenRound) => group(more),
+        Kind::Fixed(Fixed::EmptySquare) => sign_of_choice(more),
+        Kind::Fixed(Fixed::Less) => evolution(more),
         _ => Row::Refuses,
     }
 }
 
 /// `if`, and then more symbols.
 fn word_if(more: &'static [Rule]) -> Row
-    ensures { row_of result ≡ with_more more.now (spec.stmt Kind.If) }
+    ensures { row_of result ≡ with_more more.now (spec.stmt (Kind.Fixed Fixed.If)) }
 {
     Row::Takes(
         Role::Begin,
         &[
             Did(Mark::Fresh),
             Phrase(Head::Cond),
-            Wants(Kind::Then, Role::Plain),
+            Wants(Kind::Fixed(Fixed::Then), Role::Plain),
             Did(Mark::Body),
             Phrase(Head::Seq),
             Phrase(Head::Else),
@@ -310,14 +316,14 @@ fn word_if(more: &'static [Rule]) -> Row
 
 /// Statements in brackets, and then more symbols.
 fn group(more: &'static [Rule]) -> Row
-    ensures { row_of result ≡ with_more more.now (spec.stmt Kind.OpenRound) }
+    ensures { row_of result ≡ with_more more.now (spec.stmt (Kind.Fixed Fixed.OpenRound)) }
 {
     Row::Takes(
         Role::Begin,
         &[
             Did(Mark::Body),
             Phrase(Head::Seq),
-            Wants(Kind::CloseRound, Role::Close),
+            Wants(Kind::Fixed(Fixed::CloseRound), Role::Close),
             Phrase(Head::After),
         ],
         more,
@@ -326,12 +332,12 @@ fn group(more: &'static [Rule]) -> Row
 
 /// `[]`, and then more symbols.
 fn sign_of_choice(more: &'static [Rule]) -> Row
-    ensures { row_of result ≡ with_more more.now (spec.stmt Kind.EmptySquare) }
+    ensures { row_of result ≡ with_more more.now (spec.stmt (Kind.Fixed Fixed.EmptySquare)) }
 {
     Row::Takes(
         Role::Keep,
         &[
-            Wants(Kind::OpenRound, Role::Open),
+            Wants(Kind::Fixed(Fixed::OpenRound), Role::Open),
             Did(Mark::Branches),
             Phrase(Head::Branch),
             Phrase(Head::Branches),
@@ -343,7 +349,7 @@ fn sign_of_choice(more: &'static [Rule]) -> Row
 
 /// An evolution, and then more symbols.
 fn evolution(more: &'static [Rule]) -> Row
-    ensures { row_of result ≡ with_more more.now (spec.stmt Kind.Less) }
+    ensures { row_of result ≡ with_more more.now (spec.stmt (Kind.Fixed Fixed.Less)) }
 {
     Row::Takes(
         Role::Begin,
@@ -363,11 +369,11 @@ fn named(kind: Kind) -> Row
     ensures { row_of result ≡ spec.named kind }
 {
     match kind {
-        Kind::ColonEqual => takes(
+        Kind::Fixed(Fixed::ColonEqual) => takes(
             Role::Plain,
             &[Did(Mark::Fresh), Phrase(Head::Expr), Did(Mark::Assign)],
         ),
-        Kind::Exclamation => takes(
+        Kind::Fixed(Fixed::Exclamation) => takes(
             Role::Plain,
             &[
                 Did(Mark::Fresh),
@@ -376,7 +382,7 @@ fn named(kind: Kind) -> Row
                 Did(Mark::Io),
             ],
         ),
-        Kind::Question => takes(
+        Kind::Fixed(Fixed::Question) => takes(
             Role::Plain,
             &[
                 Wants(Kind::Name, Role::Keep),
@@ -393,13 +399,13 @@ fn else_part(kind: Kind) -> Row
     ensures { row_of result ≡ spec.else_part kind }
 {
     match kind {
-        Kind::EndIf => takes(Role::Close, &[Did(Mark::If)]),
-        Kind::Else => takes(
+        Kind::Fixed(Fixed::EndIf) => takes(Role::Close, &[Did(Mark::If)]),
+        Kind::Fixed(Fixed::Else) => takes(
             Role::Plain,
             &[
                 Did(Mark::Body),
                 Phrase(Head::Seq),
-                Wants(Kind::EndIf, Role::Close),
+                Wants(Kind::Fixed(Fixed::EndIf), Role::Close),
                 Did(Mark::Else),
             ],
         ),
@@ -412,24 +418,24 @@ fn after(kind: Kind) -> Row
     ensures { row_of result ≡ spec.after kind }
 {
     match kind {
-        Kind::StarStar => takes(Role::Plain, &[Did(Mark::Forever)]),
-        Kind::PlusPlus => takes(
+        Kind::Fixed(Fixed::StarStar) => takes(Role::Plain, &[Did(Mark::Forever)]),
+        Kind::Fixed(Fixed::PlusPlus) => takes(
             Role::Plain,
             &[
-                Wants(Kind::OpenRound, Role::Open),
+                Wants(Kind::Fixed(Fixed::OpenRound), Role::Open),
                 Did(Mark::Body),
                 Phrase(Head::Seq),
-                Wants(Kind::CloseRound, Role::Close),
+                Wants(Kind::Fixed(Fixed::CloseRound), Role::Close),
                 Did(Mark::Pick),
             ],
         ),
-        Kind::OpenCurly => takes(
+        Kind::Fixed(Fixed::OpenCurly) => takes(
             Role::Open,
             &[
                 Did(Mark::Fresh),
                 Phrase(Head::Cond),
-                Wants(Kind::CloseCurly, Role::Close),
-                Wants(Kind::StarStar, Role::Plain),
+                Wants(Kind::Fixed(Fixed::CloseCurly), Role::Close),
+                Wants(Kind::Fixed(Fixed::StarStar), Role::Plain),
                 Did(Mark::Loop),
             ],
         ),
@@ -446,7 +452,7 @@ fn branch(kind: Kind) -> Row
             Role::Keep,
             &[
                 Phrase(Head::Meet),
-                Wants(Kind::Arrow, Role::Plain),
+                Wants(Kind::Fixed(Fixed::Arrow), Role::Plain),
                 Did(Mark::Body),
                 Phrase(Head::Seq),
                 Did(Mark::Branch),
@@ -461,11 +467,11 @@ fn meet(kind: Kind) -> Row
     ensures { row_of result ≡ spec.meet kind }
 {
     match kind {
-        Kind::Exclamation => takes(
+        Kind::Fixed(Fixed::Exclamation) => takes(
             Role::Plain,
             &[Did(Mark::Fresh), Phrase(Head::Expr), Did(Mark::Send)],
         ),
-        Kind::Question => takes(
+        Kind::Fixed(Fixed::Question) => takes(
             Role::Plain,
             &[Wants(Kind::Name, Role::Keep), Did(Mark::Receive)],
         ),
@@ -478,8 +484,11 @@ fn branches(kind: Kind) -> Row
     ensures { row_of result ≡ spec.branches kind }
 {
     match kind {
-        Kind::CloseRound => takes(Role::Close, &[]),
-        Kind::Comma => takes(Role::Plain, &[Phrase(Head::Branch), Phrase(Head::Branches)]),
+        Kind::Fixed(Fixed::CloseRound) => takes(Role::Close, &[]),
+        Kind::Fixed(Fixed::Comma) => takes(
+            Role::Plain,
+            &[Phrase(Head::Branch), Phrase(Head::Branches)],
+        ),
         _ => Row::Refuses,
     }
 }
@@ -492,7 +501,7 @@ fn rate(kind: Kind) -> Row
         Kind::Rate => takes(
             Role::Keep,
             &[
-                Wants(Kind::Equal, Role::Plain),
+                Wants(Kind::Fixed(Fixed::Equal), Role::Plain),
                 Did(Mark::Fresh),
                 Phrase(Head::Expr),
                 Did(Mark::Rate),
@@ -507,13 +516,13 @@ fn rates(kind: Kind) -> Row
     ensures { row_of result ≡ spec.rates kind }
 {
     match kind {
-        Kind::Comma => takes(Role::Plain, &[Phrase(Head::Rate), Phrase(Head::Rates)]),
-        Kind::And => takes(
+        Kind::Fixed(Fixed::Comma) => takes(Role::Plain, &[Phrase(Head::Rate), Phrase(Head::Rates)]),
+        Kind::Fixed(Fixed::And) => takes(
             Role::Plain,
             &[
                 Did(Mark::Fresh),
                 Phrase(Head::Cond),
-                Wants(Kind::Greater, Role::Close),
+                Wants(Kind::Fixed(Fixed::Greater), Role::Close),
             ],
         ),
         _ => Row::Refuses,
@@ -525,11 +534,11 @@ fn interrupt(kind: Kind) -> Row
     ensures { row_of result ≡ spec.interrupt kind }
 {
     match kind {
-        Kind::BarGreater => takes(
+        Kind::Fixed(Fixed::BarGreater) => takes(
             Role::Plain,
             &[
-                Wants(Kind::EmptySquare, Role::Plain),
-                Wants(Kind::OpenRound, Role::Open),
+                Wants(Kind::Fixed(Fixed::EmptySquare), Role::Plain),
+                Wants(Kind::Fixed(Fixed::OpenRound), Role::Open),
                 Phrase(Head::Branch),
                 Phrase(Head::Branches),
             ],
@@ -543,7 +552,10 @@ fn more(kind: Kind) -> Row
     ensures { row_of result ≡ spec.more kind }
 {
     match kind {
-        Kind::Semicolon => takes(Role::Plain, &[Phrase(Head::Stmt), Phrase(Head::More)]),
+        Kind::Fixed(Fixed::Semicolon) => takes(
+            Role::Plain,
+            &[Phrase(Head::Stmt), Phrase(Head::More)],
+        ),
         _ => Row::Skips,
     }
 }
@@ -553,7 +565,7 @@ fn products(kind: Kind) -> Row
     ensures { row_of result ≡ spec.products kind }
 {
     match kind {
-        Kind::Star | Kind::Slash => takes(
+        Kind::Fixed(Fixed::Star) | Kind::Fixed(Fixed::Slash) => takes(
             Role::Operator,
             &[
                 Phrase(Head::Factor),
@@ -570,7 +582,7 @@ fn sums(kind: Kind) -> Row
     ensures { row_of result ≡ spec.sums kind }
 {
     match kind {
-        Kind::Plus | Kind::Minus => takes(
+        Kind::Fixed(Fixed::Plus) | Kind::Fixed(Fixed::Minus) => takes(
             Role::Operator,
             &[Phrase(Head::Term), Did(Mark::Binary), Phrase(Head::Sums)],
         ),
@@ -585,14 +597,22 @@ fn one_then(kind: Kind, more: &'static [Rule], compared: &'static [Rule]) -> Row
     ensures { row_of result ≡ with_more more.now (spec.one kind) }
 {
     match kind {
-        Kind::Exclamation => Row::Takes(Role::Prefix, &[Phrase(Head::One), Did(Mark::Not)], more),
-        Kind::True | Kind::False => Row::Takes(Role::Leaf, &[], more),
-        Kind::OpenSquare => Row::Takes(
-            Role::Open,
-            &[Phrase(Head::Cond), Wants(Kind::CloseSquare, Role::Close)],
+        Kind::Fixed(Fixed::Exclamation) => Row::Takes(
+            Role::Prefix,
+            &[Phrase(Head::One), Did(Mark::Not)],
             more,
         ),
-        Kind::Number | Kind::Name | Kind::Minus | Kind::OpenRound => factor(kind, compared),
+        Kind::Fixed(Fixed::True) | Kind::Fixed(Fixed::False) => Row::Takes(Role::Leaf, &[], more),
+        Kind::Fixed(Fixed::OpenSquare) => Row::Takes(
+            Role::Open,
+            &[
+                Phrase(Head::Cond),
+                Wants(Kind::Fixed(Fixed::CloseSquare), Role::Close),
+            ],
+            more,
+        ),
+        Kind::Number | Kind::Name | Kind::Fixed(Fixed::Minus) | Kind::Fixed(Fixed::OpenRound) =>
+            factor(kind, compared),
         _ => Row::Refuses,
     }
 }
@@ -650,12 +670,15 @@ fn compare(kind: Kind) -> Row
     ensures { row_of result ≡ spec.compare kind }
 {
     match kind {
-        Kind::Less
-        | Kind::LessEqual
-        | Kind::EqualEqual
-        | Kind::NotEqual
-        | Kind::GreaterEqual
-        | Kind::Greater => takes(Role::Operator, &[Phrase(Head::Expr), Did(Mark::Compare)]),
+        Kind::Fixed(Fixed::Less)
+        | Kind::Fixed(Fixed::LessEqual)
+        | Kind::Fixed(Fixed::EqualEqual)
+        | Kind::Fixed(Fixed::NotEqual)
+        | Kind::Fixed(Fixed::GreaterEqual)
+        | Kind::Fixed(Fixed::Greater) => takes(
+            Role::Operator,
+            &[Phrase(Head::Expr), Did(Mark::Compare)],
+        ),
         _ => Row::Refuses,
     }
 }
@@ -665,7 +688,7 @@ fn ands(kind: Kind) -> Row
     ensures { row_of result ≡ spec.ands kind }
 {
     match kind {
-        Kind::AndAnd => takes(
+        Kind::Fixed(Fixed::AndAnd) => takes(
             Role::Operator,
             &[Phrase(Head::One), Did(Mark::And), Phrase(Head::Ands)],
         ),
@@ -678,7 +701,7 @@ fn ors(kind: Kind) -> Row
     ensures { row_of result ≡ spec.ors kind }
 {
     match kind {
-        Kind::BarBar => takes(
+        Kind::Fixed(Fixed::BarBar) => takes(
             Role::Operator,
             &[Phrase(Head::Both), Did(Mark::Or), Phrase(Head::Ors)],
         ),

@@ -12,16 +12,21 @@ use Rattle.hc_grammar.specs.Ends.{Ends}
 use Rattle.hc_scan.specs.declared.piece.Piece.{Piece}
 use Rattle.hc_scan.specs.Tokens.{TellsEnd}
 use Rattle.hc_scan.proofs.Passing as scan
+use Rattle.hc_token.specs.declared.fixed.Fixed.{Fixed}
 use Rattle.hc_token.specs.declared.kind.Kind.{Kind}
 use Rattle.hc_token.specs.declared.kind.Kind.TheVariants as k
-use Rattle.hc_token.specs.declared.token.Content.TheVariants as says
+use Rattle.hc_token.specs.declared.token.Lexeme.{Lexeme}
+use Rattle.hc_token.specs.declared.token.Lexeme.TheVariants as lex
 use Rattle.hc_token.specs.declared.token.Token.{Token}
-use Rattle.hc_token.specs.Kinds.{Spelled, keywords, signs, keyword, sign}
-use Rattle.hc_token.specs.Words.{Lexeme, word, short_word, before_dot, is_name, ends_in_dot, front_of}
-use Rattle.hc_token.specs.Numbers.{front_digits, places_digits, number_of, in_range, ranged}
+use Rattle.hc_token.specs.Kinds.{sign, keyword}
+use Rattle.hc_token.specs.Lexemes.{kind_of}
+use Rattle.hc_token.specs.Words.{word, short_word, before_dot, is_name, ends_in_dot, front_of}
+use Rattle.hc_token.specs.Decimals.{Ranged, fits, unfit}
+use Rattle.hc_token.specs.Numbers.{front_digits, places_digits, said, number_of}
 use Rattle.hc_token.specs.Pieces.{is_blank, in_comment, gap, word_piece, number_piece, sign_piece, piece}
-use Rattle.hc_token.specs.Tokens.{token_at, end, tokens_from, AreEnded}
-use Rattle.hc_token.proofs.Found.{either, found_passes, mapped}
+use Rattle.hc_token.specs.Tokens.{token_at, tokens_from, AreEnded}
+use Rattle.hc_token.specs.Ranged.{ranged}
+use Rattle.hc_token.proofs.Found.{either}
 
 -- whether a kind isn't that of the end
 abbrev pub goes_on : Kind → Bool
@@ -29,51 +34,35 @@ goes_on k.End = false
 goes_on kind = true
 
 -- a token is no end
+abbrev pub IsOn : Lexeme → Type 0
+IsOn l = goes_on (kind_of l) ≡ true
+
 abbrev pub GoesOn : Option Lexeme → Type 0
-GoesOn o = IfSome o (λ l. goes_on l.0 ≡ true)
+GoesOn o = IfSome o IsOn
 
-keyword_goes_on : (w : List ℕ) → IfSome (keyword w) (λ kind. goes_on kind ≡ true)
-unfolding keyword keywords
-keyword_goes_on w =
-    let same : Spelled → Bool = λ s. pointwise nat_eq s.0 w in
-    let found = found_passes same (λ s. goes_on s.1) keywords refl in
-    mapped (λ s. s.1) (λ kind. goes_on kind ≡ true) (find same keywords) found
-
-short_goes_on : (o : Option Kind) (w : List ℕ) → IfSome o (λ kind. goes_on kind ≡ true)
-    → goes_on (short_word o w).0 ≡ true
-short_goes_on (Some kind) w h = h
-short_goes_on None w h =
-    let P : Lexeme → Type 0 = λ l. goes_on l.0 ≡ true in
+short_goes_on : (o : Option Fixed) (w : List ℕ) → IsOn (short_word o w)
+short_goes_on (Some one) w = refl
+short_goes_on None w =
     let front = front_of w in
-    either P (ends_in_dot w) (before_dot front) (k.Name, says.Name w)
-    (either P (is_name front) (k.Rate, says.Name front) (k.Other, says.Plain) refl refl) refl
+    either IsOn (ends_in_dot w) (before_dot front) (lex.Name w)
+    (either IsOn (is_name front) (lex.Rate front) lex.Other refl refl) refl
 
-word_goes_on : (w : List ℕ) → goes_on (word w).0 ≡ true
+word_goes_on : (w : List ℕ) → IsOn (word w)
 unfolding word
 word_goes_on w =
-    let P : Lexeme → Type 0 = λ l. goes_on l.0 ≡ true in
-    let short = short_goes_on (keyword w) w (keyword_goes_on w) in
-    either P (nat_lt 64 (length w)) (k.LongWord, says.Plain) (short_word (keyword w) w) refl short
+    either IsOn (nat_lt 64 (length w)) lex.LongWord (short_word (keyword w) w) refl (short_goes_on (keyword w) w)
 
-ranged_goes_on : (digits places : ℕ) (fits : Bool) (e : in_range digits places ≡ fits)
-    → goes_on (ranged digits places fits e).0 ≡ true
-ranged_goes_on digits places true e = refl
-ranged_goes_on digits places false e = refl
+said_goes_on : {digits places : ℕ} (r : Ranged digits places) → IsOn (said r)
+said_goes_on (fits e d f g) = refl
+said_goes_on (unfit e) = refl
 
-number_goes_on : (digits places : ℕ) → goes_on (number_of digits places).0 ≡ true
+number_goes_on : (digits places : ℕ) → IsOn (number_of digits places)
 unfolding number_of
-number_goes_on digits places = ranged_goes_on digits places (in_range digits places) refl
+number_goes_on digits places = said_goes_on (ranged digits places)
 
-sign_goes_on : (o : Option (Kind × ℕ)) → IfSome o (λ s. goes_on s.0 ≡ true) → GoesOn (sign_piece o).lexeme
-sign_goes_on None h = refl
-sign_goes_on (Some s) h = h
-
-found_goes_on : (z : List ℕ) → IfSome (sign z) (λ s. goes_on s.0 ≡ true)
-unfolding sign signs
-found_goes_on z =
-    let fits : Spelled → Bool = λ s. starts_with nat_eq z s.0 in
-    let found = found_passes fits (λ s. goes_on s.1) signs refl in
-    mapped (λ s. (s.1, length s.0)) (λ s. goes_on s.0 ≡ true) (find fits signs) found
+sign_goes_on : (o : Option (Fixed × ℕ)) → GoesOn (sign_piece o).lexeme
+sign_goes_on None = refl
+sign_goes_on (Some s) = refl
 
 pub piece_goes_on : (z : List ℕ) → GoesOn (piece z).lexeme
 unfolding piece
@@ -85,19 +74,18 @@ piece_goes_on z =
     either P (is_blank b) (gap 1) _ tt
     (either P (b == 35) (gap (1 + prefix_len in_comment (drop 1 z))) _ tt
     (either P (is_ascii_alphabetic b) (word_piece w) _ (word_goes_on w)
-    (either P (is_ascii_digit b) (number_piece z) (sign_piece (sign z)) number
-    (sign_goes_on (sign z) (found_goes_on z)))))
+    (either P (is_ascii_digit b) (number_piece z) (sign_piece (sign z)) number (sign_goes_on (sign z)))))
 
 -- whether a token is the end of a text
 is_end : Token → Bool
-is_end t = not (goes_on t.kind)
+is_end t = not (goes_on (kind_of t.lexeme))
 
 before_end : (o : Option Lexeme) (p : Place) → GoesOn o → IfSome o (λ l. is_end (token_at p l) ≡ false)
 unfolding is_end
 before_end None p h = tt
 before_end (Some l) p h = ap not h
 
-tells_end : TellsEnd piece token_at end is_end
+tells_end : TellsEnd piece token_at lex.End is_end
 unfolding is_end
 tells_end = record { at_end = λ p. refl; before = λ z p. before_end (piece z).lexeme p (piece_goes_on z) }
 
@@ -111,8 +99,8 @@ is_other kind h e = false≢true (sym h ∙ ap (λ x. not (goes_on x)) e)
 are_ended : (ts : List Token) → Ends is_end ts → AreEnded ts
 unfolding is_end
 are_ended [] e = e
-are_ended (t ∷ []) e = is_last t.kind e
-are_ended (t ∷ u ∷ ts) e = (is_other t.kind e.0, are_ended (u ∷ ts) e.1)
+are_ended (t ∷ []) e = is_last (kind_of t.lexeme) e
+are_ended (t ∷ u ∷ ts) e = (is_other (kind_of t.lexeme) e.0, are_ended (u ∷ ts) e.1)
 
 pub tokens_end : (n : ℕ) (p : Place) (z : List ℕ) → AreEnded (tokens_from n p z)
-tokens_end n p z = are_ended (tokens_from n p z) (scan.tokens_end piece token_at end is_end tells_end n p z)
+tokens_end n p z = are_ended (tokens_from n p z) (scan.tokens_end piece token_at lex.End is_end tells_end n p z)

@@ -3,100 +3,95 @@ use Rattle.std.specs.Prelude.{ℕ, List, [], ◌∷◌, map, length, Option, fin
 use Rattle.std.specs.List.{starts_with}
 use Rattle.std.specs.Option.{option_map}
 use Rattle.std.specs.Cmp.Lexicographic.{pointwise}
-use Rattle.hc_token.specs.declared.kind.Kind.{Kind}
-use Rattle.hc_token.specs.declared.kind.Kind.TheVariants as k
+use Rattle.hc_token.specs.declared.fixed.Fixed.{Fixed}
+use Rattle.hc_token.specs.declared.fixed.Fixed.TheVariants as fix
 
--- how a sign is spelled; what is none is spelled by nothing
-abbrev pub sign_text : Kind → List ℕ
-sign_text k.Arrow = codes "-->"
-sign_text k.ColonEqual = codes ":="
-sign_text k.BarBar = codes "||"
-sign_text k.BarGreater = codes "|>"
-sign_text k.PlusPlus = codes "++"
-sign_text k.StarStar = codes "**"
-sign_text k.EmptySquare = codes "[]"
-sign_text k.AndAnd = codes "&&"
-sign_text k.LessEqual = codes "<="
-sign_text k.GreaterEqual = codes ">="
-sign_text k.EqualEqual = codes "=="
-sign_text k.NotEqual = codes "!="
-sign_text k.OpenRound = codes "("
-sign_text k.CloseRound = codes ")"
-sign_text k.OpenCurly = codes "{"
-sign_text k.CloseCurly = codes "}"
-sign_text k.OpenSquare = codes "["
-sign_text k.CloseSquare = codes "]"
-sign_text k.Less = codes "<"
-sign_text k.Greater = codes ">"
-sign_text k.Comma = codes ","
-sign_text k.Semicolon = codes ";"
-sign_text k.Colon = codes ":"
-sign_text k.Equal = codes "="
-sign_text k.And = codes "&"
-sign_text k.Exclamation = codes "!"
-sign_text k.Question = codes "?"
-sign_text k.Plus = codes "+"
-sign_text k.Minus = codes "-"
-sign_text k.Star = codes "*"
-sign_text k.Slash = codes "/"
-sign_text _ = []
+-- how a keyword or a sign is spelled
+abbrev pub text_of : Fixed → List ℕ
+text_of fix.Module = codes "module"
+text_of fix.EndModule = codes "endmodule"
+text_of fix.Begin = codes "begin"
+text_of fix.EndBody = codes "end"
+text_of fix.System = codes "system"
+text_of fix.EndSystem = codes "endsystem"
+text_of fix.Ch = codes "ch"
+text_of fix.Val = codes "val"
+text_of fix.Skip = codes "skip"
+text_of fix.Wait = codes "wait"
+text_of fix.Log = codes "log"
+text_of fix.If = codes "if"
+text_of fix.Then = codes "then"
+text_of fix.Else = codes "else"
+text_of fix.EndIf = codes "endif"
+text_of fix.True = codes "true"
+text_of fix.False = codes "false"
+text_of fix.Arrow = codes "-->"
+text_of fix.ColonEqual = codes ":="
+text_of fix.BarBar = codes "||"
+text_of fix.BarGreater = codes "|>"
+text_of fix.PlusPlus = codes "++"
+text_of fix.StarStar = codes "**"
+text_of fix.EmptySquare = codes "[]"
+text_of fix.AndAnd = codes "&&"
+text_of fix.LessEqual = codes "<="
+text_of fix.GreaterEqual = codes ">="
+text_of fix.EqualEqual = codes "=="
+text_of fix.NotEqual = codes "!="
+text_of fix.OpenRound = codes "("
+text_of fix.CloseRound = codes ")"
+text_of fix.OpenCurly = codes "{"
+text_of fix.CloseCurly = codes "}"
+text_of fix.OpenSquare = codes "["
+text_of fix.CloseSquare = codes "]"
+text_of fix.Less = codes "<"
+text_of fix.Greater = codes ">"
+text_of fix.Comma = codes ","
+text_of fix.Semicolon = codes ";"
+text_of fix.Colon = codes ":"
+text_of fix.Equal = codes "="
+text_of fix.And = codes "&"
+text_of fix.Exclamation = codes "!"
+text_of fix.Question = codes "?"
+text_of fix.Plus = codes "+"
+text_of fix.Minus = codes "-"
+text_of fix.Star = codes "*"
+text_of fix.Slash = codes "/"
 
--- how a keyword or a sign is spelled; what is neither is spelled by nothing
-abbrev pub text_of : Kind → List ℕ
-text_of k.Module = codes "module"
-text_of k.EndModule = codes "endmodule"
-text_of k.Begin = codes "begin"
-text_of k.EndBody = codes "end"
-text_of k.System = codes "system"
-text_of k.EndSystem = codes "endsystem"
-text_of k.Ch = codes "ch"
-text_of k.Val = codes "val"
-text_of k.Skip = codes "skip"
-text_of k.Wait = codes "wait"
-text_of k.Log = codes "log"
-text_of k.If = codes "if"
-text_of k.Then = codes "then"
-text_of k.Else = codes "else"
-text_of k.EndIf = codes "endif"
-text_of k.True = codes "true"
-text_of k.False = codes "false"
-text_of kind = sign_text kind
-
--- a spelling, and the kind that it has
+-- a spelling, and what is spelled so
 abbrev pub Spelled : Type 0
-Spelled = List ℕ × Kind
+Spelled = List ℕ × Fixed
 
-abbrev pub with_text : Kind → Spelled
-with_text kind = (text_of kind, kind)
+abbrev pub with_text : Fixed → Spelled
+with_text one = (text_of one, one)
 
 -- the keywords
 unfoldable pub keywords : List Spelled
 keywords =
     map with_text
-    (k.Module ∷ k.EndModule ∷ k.Begin ∷ k.EndBody ∷ k.System ∷ k.EndSystem ∷ k.Ch ∷ k.Val ∷ k.Skip ∷ k.Wait ∷ k.Log
-    ∷ k.If ∷ k.Then ∷ k.Else ∷ k.EndIf ∷ k.True ∷ k.False ∷ [])
+    (fix.Module ∷ fix.EndModule ∷ fix.Begin ∷ fix.EndBody ∷ fix.System ∷ fix.EndSystem ∷ fix.Ch ∷ fix.Val ∷ fix.Skip ∷ fix.Wait ∷ fix.Log
+    ∷ fix.If ∷ fix.Then ∷ fix.Else ∷ fix.EndIf ∷ fix.True ∷ fix.False ∷ [])
 
 -- the signs, the longer ones first
 unfoldable pub signs : List Spelled
 signs =
     map with_text
-    (k.Arrow ∷ k.ColonEqual ∷ k.BarBar ∷ k.BarGreater ∷ k.PlusPlus ∷ k.StarStar ∷ k.EmptySquare ∷ k.AndAnd
-    ∷ k.LessEqual ∷ k.GreaterEqual ∷ k.EqualEqual ∷ k.NotEqual
-    ∷ k.OpenRound ∷ k.CloseRound ∷ k.OpenCurly ∷ k.CloseCurly ∷ k.OpenSquare ∷ k.CloseSquare ∷ k.Less ∷ k.Greater
-    ∷ k.Comma ∷ k.Semicolon ∷ k.Colon ∷ k.Equal ∷ k.And ∷ k.Exclamation ∷ k.Question ∷ k.Plus ∷ k.Minus ∷ k.Star ∷ k.Slash ∷ [])
+    (fix.Arrow ∷ fix.ColonEqual ∷ fix.BarBar ∷ fix.BarGreater ∷ fix.PlusPlus ∷ fix.StarStar ∷ fix.EmptySquare ∷ fix.AndAnd
+    ∷ fix.LessEqual ∷ fix.GreaterEqual ∷ fix.EqualEqual ∷ fix.NotEqual
+    ∷ fix.OpenRound ∷ fix.CloseRound ∷ fix.OpenCurly ∷ fix.CloseCurly ∷ fix.OpenSquare ∷ fix.CloseSquare ∷ fix.Less ∷ fix.Greater
+    ∷ fix.Comma ∷ fix.Semicolon ∷ fix.Colon ∷ fix.Equal ∷ fix.And ∷ fix.Exclamation ∷ fix.Question ∷ fix.Plus ∷ fix.Minus ∷ fix.Star ∷ fix.Slash ∷ [])
 
--- the kind that a word has in a table, if it stands there
-abbrev pub spelled : List Spelled → List ℕ → Option Kind
+-- what a word is in a table, if it stands there
+abbrev pub spelled : List Spelled → List ℕ → Option Fixed
 spelled table w = option_map (λ s. s.1) (find (λ s. pointwise nat_eq s.0 w) table)
 
--- the first spelling of a table that the text begins with, if there is one: its kind and its length
-abbrev pub in_front : List Spelled → List ℕ → Option (Kind × ℕ)
+-- the first spelling of a table that the text begins with, if there is one: what it is and its length
+abbrev pub in_front : List Spelled → List ℕ → Option (Fixed × ℕ)
 in_front table z = option_map (λ s. (s.1, length s.0)) (find (λ s. starts_with nat_eq z s.0) table)
 
--- the kind of a keyword; a word that is none has no such kind
-unfoldable pub keyword : List ℕ → Option Kind
+-- the keyword that a word is, if it is one
+unfoldable pub keyword : List ℕ → Option Fixed
 keyword w = spelled keywords w
 
 -- the longest sign that the text begins with
-unfoldable pub sign : List ℕ → Option (Kind × ℕ)
+unfoldable pub sign : List ℕ → Option (Fixed × ℕ)
 sign z = in_front signs z

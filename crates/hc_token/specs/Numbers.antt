@@ -1,14 +1,11 @@
 -- Numbers: digits, and then, where a point and a digit come next, the point and digits.
-use Rattle.std.specs.Prelude.{◌≡◌, ◌≤◌, ◌≤ℤ◌, ℕ, ◌+◌, pos, Bool, true, false, ◌&&◌, if◌then◌else◌, ◌==◌, nat_le, List, [], ◌∷◌, ◌++◌, length, drop, slice_index, take_while, refl}
+use Rattle.std.specs.Prelude.{ℕ, ◌+◌, if◌then◌else◌, ◌==◌, List, [], ◌∷◌, ◌++◌, length, drop, slice_index, take_while}
 use Rattle.std.specs.Char.{is_ascii_digit}
 use Rattle.std.specs.Str.Parse.{digits_value}
-use Rattle.std.proofs.Common.{zero-le}
-use Rattle.std.proofs.Math.Dec.{le→leb}
-use Rattle.std.proofs.lemmas.Bool.{leb-true, and_parts}
-use Rattle.hc_frac.specs.declared.decimal.Decimal.{Decimal}
-use Rattle.hc_token.specs.declared.kind.Kind.TheVariants as k
-use Rattle.hc_token.specs.declared.token.Content.TheVariants as says
-use Rattle.hc_token.specs.Words.{Lexeme}
+use Rattle.hc_token.specs.declared.token.Lexeme.{Lexeme}
+use Rattle.hc_token.specs.declared.token.Lexeme.TheVariants as lex
+use Rattle.hc_token.specs.Decimals.{Ranged, fits, unfit}
+use Rattle.hc_token.specs.Ranged.{ranged}
 
 -- the digits at the front of a text
 abbrev pub front_digits : List ℕ → List ℕ
@@ -31,33 +28,14 @@ point_len (d ∷ ds) = 2 + length ds
 abbrev pub number_len : List ℕ → ℕ
 number_len z = length (front_digits z) + point_len (places_digits z)
 
--- whether a number may have these digits, read as one number, and so many places
-abbrev pub in_range : ℕ → ℕ → Bool
-in_range digits places = nat_le digits 9223372036854775807 && nat_le places 18
+-- what a number says, or that it is out of range
+abbrev pub said : {digits places : ℕ} → Ranged digits places → Lexeme
+said (fits e d has_digits has_places) = lex.Number d
+said (unfit e) = lex.LargeNumber
 
--- no such number is negative
-pub pos_above : (n : ℕ) → pos 0 ≤ℤ pos n
-pos_above n = record { le = le→leb 0 n zero-le }
-
--- a number in range has at most 18 places
-pub few_places : (digits places : ℕ) → in_range digits places ≡ true → places ≤ 18
-few_places digits places e =
-    leb-true places 18 (and_parts (nat_le digits 9223372036854775807) (nat_le places 18) e).1
-
--- the number with these digits and places
-abbrev pub decimal : (digits places : ℕ) → in_range digits places ≡ true → Decimal
-decimal digits places e =
-    let short = few_places digits places e in
-    record { digits = pos digits; places = places; not_negative = pos_above digits; short = short }
-
--- the number where it is in range
-abbrev pub ranged : (digits places : ℕ) (fits : Bool) → in_range digits places ≡ fits → Lexeme
-ranged digits places true e = (k.Number, says.Number (decimal digits places e))
-ranged digits places false e = (k.LargeNumber, says.Plain)
-
--- a number with these digits and places, which may be out of range
+-- a number with these digits and places; which it is, the type of `ranged` tells
 unfoldable pub number_of : ℕ → ℕ → Lexeme
-number_of digits places = ranged digits places (in_range digits places) refl
+number_of digits places = said (ranged digits places)
 
 -- the number at the front of a text
 abbrev pub number : List ℕ → Lexeme

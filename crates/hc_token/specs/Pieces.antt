@@ -4,11 +4,11 @@ use Rattle.std.specs.List.{prefix_len}
 use Rattle.std.specs.Char.{is_ascii_alphabetic, is_ascii_digit}
 use Rattle.hc_frac.specs.Word.{word_byte}
 use Rattle.hc_scan.specs.declared.piece.Piece.{Piece}
-use Rattle.hc_token.specs.declared.kind.Kind.{Kind}
-use Rattle.hc_token.specs.declared.kind.Kind.TheVariants as k
-use Rattle.hc_token.specs.declared.token.Content.TheVariants as says
+use Rattle.hc_token.specs.declared.fixed.Fixed.{Fixed}
+use Rattle.hc_token.specs.declared.token.Lexeme.{Lexeme}
+use Rattle.hc_token.specs.declared.token.Lexeme.TheVariants as lex
 use Rattle.hc_token.specs.Kinds.{sign}
-use Rattle.hc_token.specs.Words.{Lexeme, word}
+use Rattle.hc_token.specs.Words.{word}
 use Rattle.hc_token.specs.Numbers.{number, number_len}
 
 -- a space, a tab, a carriage return or a newline
@@ -32,9 +32,9 @@ abbrev pub number_piece : List ℕ → Piece Lexeme
 number_piece z = record { len = number_len z; lexeme = Some (number z) }
 
 -- a sign, or else one byte that begins no token
-abbrev pub sign_piece : Option (Kind × ℕ) → Piece Lexeme
-sign_piece (Some s) = record { len = s.1; lexeme = Some (s.0, says.Plain) }
-sign_piece None = record { len = 1; lexeme = Some (k.Other, says.Plain) }
+abbrev pub sign_piece : Option (Fixed × ℕ) → Piece Lexeme
+sign_piece (Some s) = record { len = s.1; lexeme = Some (lex.Fixed s.0) }
+sign_piece None = record { len = 1; lexeme = Some lex.Other }
 
 -- what stands at the front of a text, as long as possible
 unfoldable pub piece : List ℕ → Piece Lexeme

@@ -6,8 +6,7 @@ ghost use Rattle.std.specs.List.{list_all, prefix_len};
 ghost use Rattle.std.specs.Str.Parse.{digits_value_after};
 ghost use Rattle.hc_token.specs.Numbers as spec;
 
-use crate::kind::Kind;
-use crate::token::Content;
+use crate::token::Lexeme;
 use hc_frac::Decimal;
 
 /// The greatest that the digits of a number may be, read as one number.
@@ -16,7 +15,7 @@ const MOST_DIGITS: u64 = 0x7fff_ffff_ffff_ffff;
 const MOST_PLACES: usize = 18;
 
 /// The number at the front of a text, and its length in bytes.
-pub(crate) fn number(text: &[u8]) -> ((Kind, Content), usize)
+pub(crate) fn number(text: &[u8]) -> (Lexeme, usize)
     requires { is_ascii_digit (slice_index text.now 0) ≡ true }
     ensures number { result.0 ≡ spec.number text.now }
     ensures len { result.1 ≡ spec.number_len text.now }
@@ -75,14 +74,14 @@ fn with_digits(mut value: u64, digits: &[u8]) -> u64
 }
 
 /// The number with these digits, read as one number, and so many places.
-fn number_of(digits: u64, places: usize) -> (Kind, Content)
+fn number_of(digits: u64, places: usize) -> Lexeme
     ensures { result ≡ spec.number_of digits places }
 {
     if digits > MOST_DIGITS || places > MOST_PLACES {
-        return (Kind::LargeNumber, Content::Plain);
+        return Lexeme::LargeNumber;
     }
     match Decimal::new(digits as i64, places as u8) {
-        Some(number) => (Kind::Number, Content::Number(number)),
+        Some(number) => Lexeme::Number(number),
         None => unreachable!(),
     }
 }

@@ -6,15 +6,15 @@ ghost use Rattle.hc_frac.specs.Word.{word_byte};
 ghost use Rattle.hc_token.specs.Kinds.{sign};
 ghost use Rattle.hc_token.specs.Pieces as spec;
 
-use crate::kind::{Kind, sign};
+use crate::fixed::sign;
 use crate::number::number;
-use crate::token::Content;
+use crate::token::Lexeme;
 use crate::word::word;
 use hc_scan::Piece;
 
 /// The piece at the front of a text: a token, or a blank or a comment, which are none.
 #[tactic(auto, using(crate::proofs::Runs::all_of_run), unfolding(crate::specs::Pieces::piece))]
-pub(crate) fn front_piece(text: &[u8]) -> Piece<(Kind, Content)>
+pub(crate) fn front_piece(text: &[u8]) -> Piece<Lexeme>
     requires { 0 < length text.now }
     ensures piece { result ≡ spec.piece text.now }
     ensures within { (1 ≤ result.len) × (result.len ≤ length text.now) }
@@ -48,19 +48,19 @@ pub(crate) fn front_piece(text: &[u8]) -> Piece<(Kind, Content)>
 }
 
 /// The sign at the front of a text, or one byte that begins no token.
-fn sign_piece(text: &[u8]) -> Piece<(Kind, Content)>
+fn sign_piece(text: &[u8]) -> Piece<Lexeme>
     requires { 0 < length text.now }
     ensures piece { result ≡ spec.sign_piece (sign text.now) }
     ensures within { (1 ≤ result.len) × (result.len ≤ length text.now) }
 {
     match sign(text) {
-        Some((kind, len)) => Piece {
+        Some((fixed, len)) => Piece {
             len,
-            lexeme: Some((kind, Content::Plain)),
+            lexeme: Some(Lexeme::Fixed(fixed)),
         },
         None => Piece {
             len: 1,
-            lexeme: Some((Kind::Other, Content::Plain)),
+            lexeme: Some(Lexeme::Other),
         },
     }
 }

@@ -3,10 +3,10 @@
 ghost use Rattle.std.specs.Prelude.{◌≡◌, ◌+◌, ◌<◌, ◌^◌, length};
 ghost use Rattle.hc_token.specs.Pieces.{piece};
 ghost use Rattle.hc_token.specs.Tokens as spec;
+ghost use Rattle.hc_token.specs.declared.token.Lexeme.TheVariants as lex;
 
-use crate::kind::Kind;
 use crate::piece::front_piece;
-use crate::token::{Content, Token};
+use crate::token::{Lexeme, Token};
 use hc_frac::Place;
 use hc_grammar::Source;
 use hc_scan::{Lexer, Piece};
@@ -17,7 +17,7 @@ use std::marker::Model;
 pub(crate) struct SourceLexer;
 
 impl Lexer for SourceLexer {
-    type Lexeme = (Kind, Content);
+    type Lexeme = Lexeme;
 
     type Token = Token;
 
@@ -25,27 +25,22 @@ impl Lexer for SourceLexer {
 
     ghost token_at = { spec.token_at };
 
-    ghost end = { spec.end };
+    ghost end = { lex.End };
 
-    fn front(text: &[u8]) -> Piece<(Kind, Content)> {
+    fn front(text: &[u8]) -> Piece<Lexeme> {
         front_piece(text)
     }
 
-    fn token(place: Place, lexeme: (Kind, Content)) -> Token {
-        let (kind, content) = lexeme;
-        Token {
-            place,
-            kind,
-            content,
-        }
+    fn token(place: Place, lexeme: Lexeme) -> Token {
+        Token { place, lexeme }
     }
 
-    fn end_lexeme() -> (Kind, Content) {
-        (Kind::End, Content::Plain)
+    fn end_lexeme() -> Lexeme {
+        Lexeme::End
     }
 }
 
-/// The tokens of a text, one by one. The last is `Kind::End`, and no other is. It takes no memory.
+/// The tokens of a text, one by one. The last is `Lexeme::End`, and no other is. It takes no memory.
 #[derive(Drop)]
 pub struct Scanner<'a> {
     tokens: hc_scan::Scanner<'a, SourceLexer>,

@@ -1,5 +1,5 @@
 -- A text of digits alone, as a number of the source language.
-use Rattle.std.proofs.Common.{◌≡◌, ◌<◌, ◌≤◌, ◌-◌, ℕ, pos, Bool, true, false, cond, List, [], ◌∷◌, ◌++◌, length, drop, Some, refl, sym, ap, ap₂, ◌∙◌, arith}
+use Rattle.std.proofs.Common.{◌≡◌, ◌<◌, ◌≤◌, ◌-◌, ℕ, pos, Bool, true, cond, List, [], ◌∷◌, ◌++◌, length, drop, Some, refl, sym, ap, ap₂, ◌∙◌, arith}
 use Rattle.std.specs.Prelude.{take_while}
 use Rattle.std.specs.Char.{is_ascii_digit}
 use Rattle.std.specs.List.{list_all}
@@ -9,12 +9,12 @@ use Rattle.std.proofs.lemmas.Bool.Decides.{nat_tests}
 use Rattle.std.proofs.lemmas.List.{append-nil}
 use Rattle.std.proofs.lemmas.List.Sums.{take_while-cons}
 use Rattle.hc_frac.specs.declared.decimal.Decimal.{Decimal}
-use Rattle.hc_token.specs.declared.kind.Kind.TheVariants as k
-use Rattle.hc_token.specs.declared.token.Content.TheVariants as content
+use Rattle.hc_token.specs.declared.token.Lexeme.TheVariants as lex
 use Rattle.hc_token.specs.declared.token.Token.{Token}
-use Rattle.hc_token.specs.Numbers as numbers
-use Rattle.hc_token.specs.Numbers.{front_digits, point_digits, places_digits, in_range, number_of}
-use Rattle.hc_token.specs.Pieces.{number_piece, piece}
+use Rattle.hc_token.specs.Decimals.{in_range}
+use Rattle.hc_token.specs.Ranged as numbers
+use Rattle.hc_token.specs.Numbers.{point_digits, places_digits, number_of}
+use Rattle.hc_token.specs.Pieces.{piece}
 use Rattle.hc_token.specs.Tokens.{after, first_place, token_at, tokens_from, tokens_of, with_piece}
 use Rattle.hc_token.proofs.Digits.{digit_in_front}
 use Rattle.hc_token.proofs.Ranges.{number_in_range}
@@ -25,13 +25,13 @@ use Rattle.hc_words.specs.Numbers.{IsDecimalText}
 first_same : (a b : Token) (ts us : List Token) → a ∷ ts ≡ b ∷ us → a ≡ b
 first_same a b ts us e = cc e
 
-same_said : (d c : Decimal) → content.Number d ≡ content.Number c → d ≡ c
+same_said : (d c : Decimal) → lex.Number d ≡ lex.Number c → d ≡ c
 same_said d c e = cc e
 
 pub one_number : (t : List ℕ) (d c : Decimal) → IsDecimalText t d → IsDecimalText t c → d ≡ c
 one_number t d c is other =
     let same = first_same is.number other.number (is.end ∷ []) (other.end ∷ []) (sym is.tokens ∙ other.tokens) in
-    same_said d c (sym is.says ∙ ap (λ (x : Token). x.content) same ∙ other.says)
+    same_said d c (sym is.says ∙ ap (λ (x : Token). x.lexeme) same ∙ other.says)
 
 -- ---- digits alone are one token
 
@@ -66,11 +66,11 @@ digits_read [] some digits small d is = absurd (omega arith)
 digits_read (b ∷ y) some digits small d is =
     let n : ℕ = digits_value 10 (b ∷ y) in
     let own : Decimal = numbers.decimal n 0 (whole_in_range n small) in
-    let lexeme : (piece (b ∷ y)).lexeme ≡ Some (k.Number, content.Number own) =
+    let lexeme : (piece (b ∷ y)).lexeme ≡ Some (lex.Number own) =
     digits_in_front b y digits ∙ ap Some (sym (number_in_range own n 0 small (omega arith) refl refl)) in
     let rest : List Token = tokens_from ((piece (b ∷ y)).len - 1) (after first_place b) y in
-    let tokens : tokens_of (b ∷ y) ≡ token_at first_place (k.Number, content.Number own) ∷ rest =
+    let tokens : tokens_of (b ∷ y) ≡ token_at first_place (lex.Number own) ∷ rest =
     ap (λ l. with_piece first_place l rest) lexeme in
-    let same = first_same is.number (token_at first_place (k.Number, content.Number own)) (is.end ∷ []) rest (sym is.tokens ∙ tokens) in
-    let said = same_said d own (sym is.says ∙ ap (λ (x : Token). x.content) same) in
+    let same = first_same is.number (token_at first_place (lex.Number own)) (is.end ∷ []) rest (sym is.tokens ∙ tokens) in
+    let said = same_said d own (sym is.says ∙ ap (λ (x : Token). x.lexeme) same) in
     (ap (λ (x : Decimal). x.digits) said, ap (λ (x : Decimal). x.places) said)

@@ -8,7 +8,7 @@ use Rattle.hc_rational.specs.Words.{Rational}
 use Rattle.hc_frac.specs.Words.{IsFrac, quotient}
 use Rattle.hc_frac.specs.Text.{text_of}
 use Rattle.hc_frac.specs.declared.decimal.Decimal.{Decimal}
-use Rattle.hc_token.specs.declared.token.Content.TheVariants as content
+use Rattle.hc_token.specs.declared.token.Lexeme.TheVariants as lex
 use Rattle.hc_token.specs.declared.token.Token.{Token}
 use Rattle.hc_token.specs.Tokens.{tokens_of}
 
@@ -33,7 +33,7 @@ pub record IsDecimalText (t : List ℕ) (d : Decimal) : Type 0 where
   pub number : Token
   pub end : Token
   pub tokens : tokens_of t ≡ number ∷ end ∷ []
-  pub says : number.content ≡ content.Number d
+  pub says : number.lexeme ≡ lex.Number d
 
 -- a fraction by its own text, or by a number of the source language
 pub data IsFractionText (t : List ℕ) (q : Rational) : Type 0 where

@@ -11,7 +11,7 @@ ghost use Rattle.hc_words.specs.Numbers as spec;
 use hc_frac::{Decimal, Frac};
 use hc_grammar::Source;
 use hc_limits::MOST_SOURCE_BYTES;
-use hc_token::{Content, Kind, Scanner};
+use hc_token::{Kind, Lexeme, Scanner};
 
 /// The most digits of a whole number.
 const MOST_DIGITS: usize = 20;
@@ -63,8 +63,8 @@ fn decimal_of(text: &[u8]) -> Option<Decimal>
     let mut tokens = Scanner::new(text);
     let first = tokens.next()?;
     let second = tokens.next()?;
-    match first.content {
-        Content::Number(number) if second.kind == Kind::End => Some(number),
+    match first.lexeme {
+        Lexeme::Number(number) if second.lexeme.kind() == Kind::End => Some(number),
         _ => None,
     }
 }
