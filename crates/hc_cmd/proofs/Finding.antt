@@ -1,14 +1,13 @@
 -- What the answers of the crates below say of a text: its tree or its system, or what is answered where it has none.
-use Rattle.std.proofs.Common.{◌≡◌, ◌≤◌, ℕ, List, [], length, Option, Some, None, Result, Ok, Err, MatchResult, IfOk, IfErr, ◌⊎◌, inl, inr, refl, sym, ap, subst, ◌∙◌}
+use Rattle.std.proofs.Common.{◌≡◌, ◌≤◌, ℕ, true, false, List, [], length, Option, Some, None, Result, Ok, Err, MatchResult, IfOk, IfErr, ◌⊎◌, inl, inr, refl, sym, ap, subst, ◌∙◌}
 use Rattle.std.proofs.lemmas.List.{append-nil}
 use Rattle.hc_world.specs.Reading.{ReadsAll}
 use Rattle.hc_world.specs.Sinks.{AddsFlushed, IsWhole}
 use Rattle.hc_world.specs.States.{SourceState, SinkState}
 use Rattle.hc_world.specs.Written.{Written}
-use Rattle.hc_print.specs.Canonical.{canonical}
 use Rattle.hc_words.specs.declared.requests.Request.{Request}
 use Rattle.hc_words.specs.Requests.{Ask}
-use Rattle.hc_cmd.specs.Calls.{Replies, no_memory, replied, answered}
+use Rattle.hc_cmd.specs.Calls.{Replies, no_memory, replied, without_source, answered}
 use Rattle.hc_ast.specs.declared.flaw.Flaw.TheVariants as wrong
 use Rattle.hc_ast.specs.declared.tree.Tree.{Tree}
 use Rattle.hc_ast.specs.Source.{IsSource}
@@ -31,7 +30,7 @@ use Rattle.hc_limits.specs.Limits.{most_source_bytes}
 use Rattle.hc_cmd.specs.declared.prepared.Prepared.{Prepared}
 use Rattle.hc_cmd.specs.Reply.{Reply}
 use Rattle.hc_cmd.specs.Refusals.{refused}
-use Rattle.hc_cmd.specs.Answers.{OfText, no_source, source, OfTree, unexpanded, unchecked, accepted, OfSource, done, Answers, answering}
+use Rattle.hc_cmd.specs.Answers.{OfText, no_source, source, OfTree, unexpanded, unchecked, accepted, OfSource, done, Answers, answering, reads_source}
 use Rattle.hc_cmd.specs.Prepared.{Accepts, FindsTree, Prepares, IsReady, reply_to}
 
 -- want of memory, or one of these replies
@@ -170,12 +169,19 @@ done_so a b e = ap done e
 
 module _ {S : Type 0} (state : S → SourceState) (words : List (List ℕ)) (before after : S) where
   -- what the text gives, the source gives
-  pub text_gives : (request : Request) (text : List ℕ) → Ask words request → ReadsAll (state before).left (state after).left text → length text ≤ most_source_bytes →
+  pub text_gives : (request : Request) (text : List ℕ) → Ask words request → reads_source request ≡ true → ReadsAll (state before).left (state after).left text → length text ≤ most_source_bytes →
       (state after).faults ≡ (state before).faults → (r : Result Prepared Refusal) → Prepares (Answers request text) r →
       MatchResult r (λ p. IsReady p × Replies answering state words before after (reply_to p)) (λ f. Replies answering state words before after (refused f))
-  text_gives request text asked all fits kept (Ok p) h = (h.0, replied request asked kept (answered refl text all fits h.1))
-  text_gives request text asked all fits kept (Err f) (inl e) = no_memory kept e
-  text_gives request text asked all fits kept (Err f) (inr a) = replied request asked kept (answered refl text all fits a)
+  text_gives request text asked reads all fits kept (Ok p) h = (h.0, replied request asked kept (answered reads text all fits h.1))
+  text_gives request text asked reads all fits kept (Err f) (inl e) = no_memory kept e
+  text_gives request text asked reads all fits kept (Err f) (inr a) = replied request asked kept (answered reads text all fits a)
+
+  -- what is given where no source is read
+  pub alone_gives : (request : Request) → Ask words request → reads_source request ≡ false → after ≡ before → (r : Result Prepared Refusal) → Prepares (Answers request []) r →
+      MatchResult r (λ p. IsReady p × Replies answering state words before after (reply_to p)) (λ f. Replies answering state words before after (refused f))
+  alone_gives request asked none same (Ok p) h = (h.0, replied request asked (ap (λ (s : S). (state s).faults) same) (without_source none same h.1))
+  alone_gives request asked none same (Err f) (inl e) = no_memory (ap (λ (s : S). (state s).faults) same) e
+  alone_gives request asked none same (Err f) (inr a) = replied request asked (ap (λ (s : S). (state s).faults) same) (without_source none same a)
 
 -- ---- sinks that weren't called
 

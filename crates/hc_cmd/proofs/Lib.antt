@@ -3,3 +3,4 @@ pub mod Finding
 pub mod Statuses
 pub mod Calling
 pub mod OneReply
+pub mod MadeRuns

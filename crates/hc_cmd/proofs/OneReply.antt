@@ -1,17 +1,14 @@
 -- The call `answer` is well made; and what is replied is decided by the request and the text.
-use Rattle.std.proofs.Common.{◌≡◌, ◌≤◌, ℕ, true, false, List, IsTrue, refl, sym, ap, ap₂, subst, ◌∙◌}
+use Rattle.std.proofs.Common.{◌≡◌, ◌≤◌, ℕ, List, IsTrue, sym, ap, ap₂, subst, ◌∙◌}
 use Rattle.hc_limits.specs.Limits.{most_steps}
 use denote.Struct.Props.{props}
 use Rattle.hc_rational.specs.Words.{Rational, is_positive}
-use Rattle.hc_ast.specs.declared.flaw.Flaw.{Flaw}
 use Rattle.hc_ast.specs.declared.tree.Tree.{Tree}
-use Rattle.hc_frac.specs.declared.place.Place.{Place}
 use Rattle.hc_parse.specs.Laws.{OneTree, SourcesAreNotRefused}
 use Rattle.hc_parse.specs.Laws as texts
 use Rattle.hc_modules.specs.declared.flat.Flat.{Flat}
 use Rattle.hc_modules.specs.declared.flat.ModuleStop.{ModuleStop}
 use Rattle.hc_modules.specs.Refusals.{IsExpansion}
-use Rattle.hc_modules.specs.Refusals as modules
 use Rattle.hc_modules.specs.Laws.{OneExpansion, ExpandedIsNotRefused}
 use Rattle.hc_modules.specs.Laws as trees
 use Rattle.hc_finds.specs.declared.stop.CheckStop.{CheckStop}
@@ -26,14 +23,16 @@ use Rattle.hc_term.specs.Canonical.{canonical}
 use Rattle.hc_term.specs.Given.{HasParts}
 use Rattle.hc_term.specs.Laws.{CanonicalIsBehaviour}
 use Rattle.hc_words.specs.declared.requests.Request.{Request}
-use Rattle.hc_words.specs.declared.requests.Request.TheVariants.{Check, Print, Simulate}
+use Rattle.hc_words.specs.declared.requests.Request.TheVariants.{Check, Print, Simulate, Make}
+use Rattle.hc_words.specs.declared.settings.Made.{Made}
 use Rattle.hc_words.specs.declared.settings.Settings.{Settings}
 use Rattle.hc_words.proofs.OneRequest.{one_request}
 use Rattle.hc_cmd.specs.declared.refusal.Refusal.TheVariants.{Unexpanded, Unchecked}
 use Rattle.hc_cmd.specs.Reply.{Reply}
 use Rattle.hc_cmd.specs.Refusals.{refused, refused_at}
-use Rattle.hc_cmd.specs.Answers.{OfText, no_source, source, OfTree, unexpanded, unchecked, accepted, OfSource, Simulates, Answers, answering, simulated, done, size_of}
-use Rattle.hc_cmd.specs.Laws.{TellsBehaviour}
+use Rattle.hc_cmd.specs.Answers.{OfText, no_source, source, OfTree, unexpanded, unchecked, accepted, OfSource, Simulates, SumsUp, Answers, answering, simulated, done}
+use Rattle.hc_cmd.specs.Made.{IsMadeTask, line_of}
+use Rattle.hc_cmd.specs.Laws.{CountsBehaviour, TellsBehaviour}
 use Rattle.hc_cmd.proofs.Calling.{IsWell}
 use Rattle.hc_cmd.proofs.Statuses.{is_answer}
 
@@ -72,6 +71,13 @@ one_task system seed horizon limit t u is of =
 one_simulation : (settings : Settings) (system : System) (r s : Reply) → Simulates settings system r → Simulates settings system s → r ≡ s
 one_simulation settings system r s a b =
     a.stands ∙ ap simulated (one_task system settings.seed settings.horizon settings.limit a.task b.task a.parts b.parts) ∙ sym b.stands
+
+-- and so does the system of a made source
+one_sum : (made : Made) (system : System) (r s : Reply) → SumsUp made system r → SumsUp made system s → r ≡ s
+one_sum made system r s a b =
+    let line : Task → List ℕ = λ t. line_of made.pairs (canonical t).items (canonical t).stop in
+    let same : a.line ≡ b.line = a.tells.says ∙ ap line (one_task system 0 _ _ a.tells.task b.tells.task a.tells.parts b.tells.parts) ∙ sym b.tells.says in
+    a.stands ∙ ap done same ∙ sym b.stands
 
 -- ---- texts
 
@@ -126,6 +132,7 @@ module _ (d : Decided) where
   one_answer Check text r s a b = source_decides _ (λ flat system r s e f. e ∙ sym f) text r s a b
   one_answer Print text r s a b = text_decides _ (λ tree r s e f. e ∙ sym f) text r s a b
   one_answer (Simulate settings) text r s a b = source_decides _ (λ flat system r s x y. one_simulation settings system r s x y) text r s a b
+  one_answer (Make made) text r s a b = source_decides _ (λ flat system r s x y. one_sum made system r s x y) _ r s a b
 
   -- ---- accepted texts
 
@@ -164,3 +171,17 @@ tells canonical_is task reply e = record {
 pub simulation_tells : CanonicalIsBehaviour → (settings : Settings) (system : System) (reply : Reply) → Simulates settings system reply →
     (task : Task) × HasParts system settings.seed settings.horizon settings.limit task × TellsBehaviour task reply
 simulation_tells canonical_is settings system reply s = (s.task, s.parts, tells canonical_is s.task reply s.stands)
+
+pub made_tells : CanonicalIsBehaviour → (made : Made) (system : System) (reply : Reply) → SumsUp made system reply →
+    (task : Task) × IsMadeTask system task × CountsBehaviour made.pairs task reply
+made_tells canonical_is made system reply s = (
+  s.tells.task,
+  s.tells.parts,
+  record {
+    items = (canonical s.tells.task).items;
+    end = (canonical s.tells.task).end;
+    stop = (canonical s.tells.task).stop;
+    behaviour = canonical_is s.tells.task;
+    says = s.stands ∙ ap done s.tells.says;
+  },
+)

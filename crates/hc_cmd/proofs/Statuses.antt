@@ -1,5 +1,5 @@
 -- The statuses of answers: those of what is done, and those of refusals, which leave nothing on output.
-use Rattle.std.proofs.Common.{◌≡◌, ◌≢◌, ◌==◌, ℕ, Bool, true, false, List, [], ◌∷◌, ◌⊎◌, inl, inr, IsTrue, refl, sym, ap, subst, ◌∙◌}
+use Rattle.std.proofs.Common.{◌≡◌, ◌≢◌, ◌==◌, ℕ, Bool, false, List, [], ◌∷◌, IsTrue, refl, sym, ap, subst, ◌∙◌}
 use Rattle.std.specs.List.{list_any}
 use Rattle.hc_ast.specs.declared.tree.Tree.{Tree}
 use Rattle.hc_modules.specs.declared.flat.Flat.{Flat}
@@ -12,7 +12,7 @@ use Rattle.hc_term.specs.declared.run.Stop.TheVariants.{Terminated, Deadlock, Ho
 use Rattle.hc_term.specs.declared.system.System.{System}
 use Rattle.hc_term.specs.Canonical.{canonical}
 use Rattle.hc_words.specs.declared.requests.Request.{Request}
-use Rattle.hc_words.specs.declared.requests.Request.TheVariants.{Check, Print, Simulate}
+use Rattle.hc_words.specs.declared.requests.Request.TheVariants.{Check, Print, Simulate, Make}
 use Rattle.hc_words.specs.declared.settings.Settings.{Settings}
 use Rattle.hc_cmd.specs.Reply.{Reply}
 use Rattle.hc_cmd.specs.Refusals.{status_of_module_stop, status_of_check_stop}
@@ -100,3 +100,5 @@ is_answer Check text reply a = text_answers _ text reply (λ tree. tree_answers 
 is_answer Print text reply a = text_answers _ text reply (λ tree e. same_answer reply _ e (does refl)) a
 is_answer (Simulate settings) text reply a =
     text_answers _ text reply (λ tree. tree_answers _ tree reply (λ flat system s. simulation_answers settings system reply s)) a
+is_answer (Make made) text reply a =
+    text_answers _ _ reply (λ tree. tree_answers _ tree reply (λ flat system s. same_answer reply _ s.stands (does refl))) a

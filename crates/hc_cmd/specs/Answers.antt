@@ -1,5 +1,5 @@
 -- What is answered to the requests of a call.
-use Rattle.std.specs.Prelude.{◌≡◌, ℕ, true, List, [], ◌∷◌, ◌++◌, length, codes, decimal}
+use Rattle.std.specs.Prelude.{◌≡◌, ℕ, Bool, true, false, List, [], ◌∷◌, ◌++◌, length, codes, decimal}
 use Rattle.hc_limits.specs.Limits.{most_source_bytes}
 use Rattle.hc_frac.specs.declared.place.Place.{Place}
 use Rattle.hc_ast.specs.declared.tree.Tree.{Tree}
@@ -20,14 +20,17 @@ use Rattle.hc_term.specs.declared.task.Task.{Task}
 use Rattle.hc_term.specs.Given.{HasParts}
 use Rattle.hc_term.specs.Canonical.{canonical}
 use Rattle.hc_term.specs.TraceText as trace
+use Rattle.hc_make.specs.Made.{made_text}
 use Rattle.hc_words.specs.declared.requests.Request.{Request}
-use Rattle.hc_words.specs.declared.requests.Request.TheVariants.{Check, Print, Simulate}
+use Rattle.hc_words.specs.declared.requests.Request.TheVariants.{Check, Print, Simulate, Make}
+use Rattle.hc_words.specs.declared.settings.Made.{Made}
 use Rattle.hc_words.specs.declared.settings.Settings.{Settings}
 use Rattle.hc_words.specs.Requests.{Ask}
 use Rattle.hc_cmd.specs.declared.refusal.Refusal.TheVariants.{Unexpanded, Unchecked}
 use Rattle.hc_cmd.specs.Reply.{Reply}
 use Rattle.hc_cmd.specs.Refusals.{refused, refused_at}
 use Rattle.hc_cmd.specs.Calls.{Call}
+use Rattle.hc_cmd.specs.Made.{TellsRun}
 
 -- ---- of a text, and of a source
 
@@ -78,12 +81,24 @@ pub record Simulates (settings : Settings) (system : System) (reply : Reply) : T
   pub parts : HasParts system settings.seed settings.horizon settings.limit task
   pub stands : reply ≡ simulated task
 
--- what may be answered, one line an action
+-- what a made source with its system lets stand: the line that tells of its run
+pub record SumsUp (made : Made) (system : System) (reply : Reply) : Type 0 where
+  pub line : List ℕ
+  pub tells : TellsRun made.pairs system line
+  pub stands : reply ≡ done line
+
+-- what may be answered, one line an action; `make` answers to the made source, and not to the text that is read
 abbrev pub Answers : Request → List ℕ → Reply → Type 0
 Answers Check = OfSource (λ flat system reply. reply ≡ done (size_of flat system))
 Answers Print = OfText (λ tree reply. reply ≡ done (canonical_spelling tree))
 Answers (Simulate settings) = OfSource (λ flat. Simulates settings)
+Answers (Make made) = λ text. OfSource (λ flat. SumsUp made) (made_text made.pairs made.seed)
 
--- the call `answer`: each of its requests reads a source
+-- all but `make` read a source
+abbrev pub reads_source : Request → Bool
+reads_source (Make made) = false
+reads_source _ = true
+
+-- the call `answer`
 abbrev pub answering : Call Request
-answering = record { asks = Ask; reads = λ _. true; most_of = λ _. most_source_bytes; answers = Answers }
+answering = record { asks = Ask; reads = reads_source; most_of = λ _. most_source_bytes; answers = Answers }

@@ -1,5 +1,6 @@
 -- What holds of all texts.
 use Rattle.std.specs.Prelude.{◌≡◌, ℕ, List, []}
+use Rattle.hc_make.specs.Made.{made_text}
 use Rattle.hc_check.specs.Accepted.{IsAccepted}
 use Rattle.hc_term.specs.declared.run.Item.{Item}
 use Rattle.hc_term.specs.declared.run.Stop.{Stop}
@@ -10,9 +11,11 @@ use Rattle.hc_term.specs.Given.{HasParts}
 use Rattle.hc_term.specs.Stop.{IsBehaviour}
 use Rattle.hc_term.specs.TraceText.{whole}
 use Rattle.hc_words.specs.declared.requests.Request.{Request}
-use Rattle.hc_words.specs.declared.requests.Request.TheVariants.{Check, Simulate}
+use Rattle.hc_words.specs.declared.requests.Request.TheVariants.{Check, Simulate, Make}
+use Rattle.hc_words.specs.declared.settings.Made.{Made}
 use Rattle.hc_words.specs.declared.settings.Settings.{Settings}
 use Rattle.hc_cmd.specs.Reply.{Reply}
+use Rattle.hc_cmd.specs.Made.{IsMadeTask, line_of}
 use Rattle.hc_cmd.specs.Answers.{Answers, done, size_of, status_at}
 
 -- a text has at most one system
@@ -45,3 +48,17 @@ abbrev pub SimulationIsBehaviour : Type 0
 SimulationIsBehaviour =
     (settings : Settings) (text : List ℕ) (system : System) (reply : Reply) → IsAccepted text system → Answers (Simulate settings) text reply →
     (task : Task) × HasParts system settings.seed settings.horizon settings.limit task × TellsBehaviour task reply
+
+-- on output stands the line that tells of a behaviour of the task
+pub record CountsBehaviour (pairs : ℕ) (task : Task) (reply : Reply) : Type 0 where
+  pub items : List Item
+  pub end : Configuration
+  pub stop : Stop
+  pub behaviour : IsBehaviour task items end stop
+  pub says : reply ≡ done (line_of pairs items stop)
+
+-- What `make` tells, where the made source is accepted, is counted in a behaviour of its task.
+abbrev pub MadeIsBehaviour : Type 0
+MadeIsBehaviour =
+    (made : Made) (text : List ℕ) (system : System) (reply : Reply) → IsAccepted (made_text made.pairs made.seed) system → Answers (Make made) text reply →
+    (task : Task) × IsMadeTask system task × CountsBehaviour made.pairs task reply

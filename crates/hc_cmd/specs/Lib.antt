@@ -1,6 +1,7 @@
 pub mod Reply
 pub mod Refusals
 pub mod Calls
+pub mod Made
 pub mod Answers
 pub mod Prepared
 pub mod Laws

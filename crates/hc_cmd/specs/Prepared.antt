@@ -28,12 +28,12 @@ AtOpening s = s.joint ≡ opened s.joint.task
 -- what is ready lets this stand
 abbrev pub reply_to : Prepared → Reply
 reply_to (is.Simulation s) = simulated s.joint.task
-reply_to (is.Size line) = done line.bytes
+reply_to (is.Line line) = done line.bytes
 reply_to (is.Spelling bytes) = done bytes.items
 
 abbrev pub IsReady : Prepared → Type 0
 IsReady (is.Simulation s) = AtOpening s
-IsReady (is.Size line) = Unit {0}
+IsReady (is.Line line) = Unit {0}
 IsReady (is.Spelling bytes) = Unit {0}
 
 -- ---- what a text has

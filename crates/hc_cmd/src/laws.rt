@@ -1,6 +1,6 @@
 //! Laws of the definitions.
 
-ghost use Rattle.hc_cmd.specs.Laws.{AcceptedIsSized, OneAcceptedSystem, OneAnswer, SimulationIsBehaviour};
+ghost use Rattle.hc_cmd.specs.Laws.{AcceptedIsSized, MadeIsBehaviour, OneAcceptedSystem, OneAnswer, SimulationIsBehaviour};
 
 use hc_check::system_laws;
 use hc_modules::tree_laws;
@@ -13,6 +13,7 @@ pub fn acceptance_laws()
     ensures one_answer { OneAnswer }
     ensures sized { AcceptedIsSized }
     ensures simulated { SimulationIsBehaviour }
+    ensures made { MadeIsBehaviour }
 {
     text_laws();
     tree_laws();

@@ -5,6 +5,7 @@ mod accepting;
 mod answering;
 mod ending;
 mod laws;
+mod making;
 mod prepared;
 mod refusal;
 mod simulation;

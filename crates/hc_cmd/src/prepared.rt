@@ -3,20 +3,24 @@
 ghost use Rattle.std.specs.Prelude.{◌≡◌, ◌≤◌, length, IfOk, MatchResult, map};
 ghost use Rattle.std.specs.String.{string_bytes};
 ghost use Rattle.hc_limits.specs.Limits.{most_source_bytes};
+ghost use Rattle.hc_make.specs.Made.{made_text};
 ghost use Rattle.hc_words.specs.declared.requests.Request.TheVariants as asked;
-ghost use Rattle.hc_cmd.specs.Answers.{Answers, answering, done};
+ghost use Rattle.hc_cmd.specs.Answers.{Answers, answering, done, OfSource, SumsUp};
+ghost use Rattle.hc_cmd.specs.Answers as spec;
 ghost use Rattle.hc_cmd.specs.Calls.{Replies};
 ghost use Rattle.hc_cmd.specs.Prepared.{reply_to, IsReady, Performs, Prepares};
 ghost use Rattle.hc_cmd.specs.Refusals.{refused};
 
 use crate::accepting::{accepted, size_line, tree_of};
 use crate::ending::{End, Halt};
+use crate::making::{made_settings, run_line};
 use crate::refusal::Refusal;
 use crate::simulation::Simulation;
 use arrayvec::ArrayString;
 use hc_limits::MOST_SOURCE_BYTES;
+use hc_make::made_source;
 use hc_print::print;
-use hc_words::{Request, Settings, WordsStop, asked_for};
+use hc_words::{Made, Request, Settings, WordsStop, asked_for};
 use hc_world::{ReadStop, Sink, Source, put, read_all};
 use std::alloc::Global;
 
@@ -24,8 +28,8 @@ use std::alloc::Global;
 #[derive(Drop)]
 pub enum Prepared {
     Simulation(Simulation),
-    /// The line that tells the size of a source.
-    Size(ArrayString<128>),
+    /// A line that tells of a source.
+    Line(ArrayString<128>),
     /// The canonical spelling of a source.
     Spelling(Vec<u8>),
 }
@@ -39,6 +43,7 @@ fn prepare_text(alloc: Global, request: Request, text: &[u8]) -> Result<Prepared
         Request::Check => prepare_size(alloc, text),
         Request::Print => prepare_spelling(alloc, text),
         Request::Simulate(settings) => prepare_simulation(alloc, settings, text),
+        Request::Make(made) => prepare_made(alloc, made),
     }
 }
 
@@ -47,7 +52,7 @@ fn prepare_size(alloc: Global, text: &[u8]) -> Result<Prepared, Refusal>
     ensures { Prepares (Answers asked.Check text.now) result }
 {
     let (flat, system) = accepted(alloc, text)?;
-    Ok(Prepared::Size(size_line(&flat, &system)))
+    Ok(Prepared::Line(size_line(&flat, &system)))
 }
 
 fn prepare_spelling(alloc: Global, text: &[u8]) -> Result<Prepared, Refusal>
@@ -68,6 +73,33 @@ fn prepare_simulation(alloc: Global, settings: Settings, text: &[u8]) -> Result<
     Ok(Prepared::Simulation(simulation))
 }
 
+/// Makes a source, and prepares what is told of it.
+fn prepare_made(alloc: Global, made: Made) -> Result<Prepared, Refusal>
+    ensures { Prepares (OfSource (λ flat. SumsUp made) (made_text made.pairs made.seed)) result }
+{
+    let text = made_source(alloc, made.pairs, made.seed).map_err(|_| Refusal::Memory)?;
+    prepare_sum(alloc, made, text.as_slice())
+}
+
+fn prepare_sum(alloc: Global, made: Made, text: &[u8]) -> Result<Prepared, Refusal>
+    requires { length text.now ≤ most_source_bytes }
+    ensures { Prepares (OfSource (λ flat. SumsUp made) text.now) result }
+{
+    let (_, system) = accepted(alloc, text)?;
+    let simulation = Simulation::open(alloc, made_settings(), system).map_err(|_| Refusal::Memory)?;
+    Ok(Prepared::Line(run_line(made, simulation)))
+}
+
+/// Whether the request reads a source.
+fn reads_source(request: &Request) -> bool
+    ensures { result ≡ spec.reads_source request.now }
+{
+    match request {
+        Request::Make(_) => false,
+        Request::Check | Request::Print | Request::Simulate(_) => true,
+    }
+}
+
 /// Reads the source as the words ask, and prepares what they ask for, or tells why nothing is to be written.
 pub(crate) fn prepare<S: Source>(
     alloc: Global,
@@ -84,6 +116,9 @@ pub(crate) fn prepare<S: Source>(
         Err(WordsStop::Usage) => return Err(Refusal::Usage),
         Err(WordsStop::Memory) => return Err(Refusal::Memory),
     };
+    if !reads_source(&request) {
+        return prepare_text(alloc, request, b"");
+    }
     let text = match read_all(alloc, source, MOST_SOURCE_BYTES) {
         Ok(text) => text,
         Err(ReadStop::Failed) => return Err(Refusal::Unread),
@@ -101,7 +136,7 @@ impl Prepared {
     {
         match self {
             Prepared::Simulation(simulation) => simulation.perform(out),
-            Prepared::Size(line) => perform_text(line.as_str().as_bytes(), out),
+            Prepared::Line(line) => perform_text(line.as_str().as_bytes(), out),
             Prepared::Spelling(bytes) => perform_text(bytes.as_slice(), out),
         }
     }

@@ -6,7 +6,7 @@ use Rattle.std.specs.Str.{bytes_eq}
 use Rattle.clap.specs.Walk.{Text}
 use Rattle.std.specs.Str.Parse.{digits_value}
 use Rattle.std.proofs.lemmas.Bool.{leb-true}
-use Rattle.hc_limits.specs.Limits.{most_steps}
+use Rattle.hc_limits.specs.Limits.{most_pairs, most_steps}
 use Rattle.hc_rational.specs.Words.{Rational, is_positive}
 use Rattle.hc_words.specs.declared.requests.Request.{Request}
 use Rattle.hc_words.specs.declared.requests.WordsStop.{WordsStop}
@@ -16,7 +16,7 @@ use Rattle.hc_words.specs.declared.actions.Action.TheVariants as act
 use Rattle.hc_words.specs.Actions.{name_of_action, belongs}
 use Rattle.hc_words.specs.Seen.{IsRequested}
 use Rattle.hc_words.specs.Line.{Given, is_taken, given}
-use Rattle.hc_words.specs.Requests.{Ask, Asks, limit_in, IsHorizon}
+use Rattle.hc_words.specs.Requests.{Ask, Asks, pairs_in, limit_in, IsHorizon}
 use Rattle.hc_words.specs.Numbers.{is_digits, number_within}
 use Rattle.hc_words.proofs.Defaults.{hundred_positive}
 
@@ -62,12 +62,19 @@ pub one_action : (a b : Action) → name_of_action a ≡ name_of_action b → a 
 one_action act.Check act.Check e = refl
 one_action act.Check act.Print e = absurd (apart (codes "check") (codes "print") refl refl e)
 one_action act.Check act.Simulate e = absurd (apart (codes "check") (codes "simulate") refl refl e)
+one_action act.Check act.Make e = absurd (apart (codes "check") (codes "make") refl refl e)
 one_action act.Print act.Check e = absurd (apart (codes "print") (codes "check") refl refl e)
 one_action act.Print act.Print e = refl
 one_action act.Print act.Simulate e = absurd (apart (codes "print") (codes "simulate") refl refl e)
+one_action act.Print act.Make e = absurd (apart (codes "print") (codes "make") refl refl e)
 one_action act.Simulate act.Check e = absurd (apart (codes "simulate") (codes "check") refl refl e)
 one_action act.Simulate act.Print e = absurd (apart (codes "simulate") (codes "print") refl refl e)
 one_action act.Simulate act.Simulate e = refl
+one_action act.Simulate act.Make e = absurd (apart (codes "simulate") (codes "make") refl refl e)
+one_action act.Make act.Check e = absurd (apart (codes "make") (codes "check") refl refl e)
+one_action act.Make act.Print e = absurd (apart (codes "make") (codes "print") refl refl e)
+one_action act.Make act.Simulate e = absurd (apart (codes "make") (codes "simulate") refl refl e)
+one_action act.Make act.Make e = refl
 
 -- the same for an action that was found by its name
 pub found_action : (name : Text) (a : Action) (g : Given) (r : Request) → name_of_action a ≡ name → (asked : IsRequested name g r) → asked.action ≡ a
@@ -96,6 +103,11 @@ within least most n t e = go (is_digits t) (nat_le least (digits_value 10 t)) (n
     go true true false i j e = cc e
     go true false b i j e = cc e
     go false a b i j e = cc e
+
+-- pairs that are given are in range
+pub pairs_within : (o : Option Text) (n : ℕ) → pairs_in o ≡ Some n → (1 ≤ n) × (n ≤ most_pairs)
+pairs_within None n e = cc e
+pairs_within (Some t) n e = within 1 most_pairs n t e
 
 -- a limit that is given or not is in range
 pub limits : (o : Option Text) (n : ℕ) → limit_in o ≡ Some n → (1 ≤ n) × (n ≤ most_steps)

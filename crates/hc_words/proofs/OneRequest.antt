@@ -1,14 +1,15 @@
 -- Words ask for one thing at most.
 use denote.Struct.Props.{props}
-use Rattle.std.proofs.Common.{◌≡◌, ◌≤◌, ℕ, List, slice_get, Option, Some, None, IsTrue, refl, sym, ap, subst, ◌∙◌}
-use Rattle.hc_limits.specs.Limits.{most_steps}
+use Rattle.std.proofs.Common.{◌≡◌, ◌≤◌, ℕ, List, slice_get, Option, Some, None, IsTrue, sym, ap, subst, ◌∙◌}
+use Rattle.hc_limits.specs.Limits.{most_pairs, most_steps}
 use Rattle.clap.specs.Walk.{Text}
 use Rattle.hc_rational.specs.Words.{Rational, is_positive}
 use Rattle.hc_words.specs.declared.requests.Request.{Request}
-use Rattle.hc_words.specs.declared.requests.Request.TheVariants.{Simulate}
+use Rattle.hc_words.specs.declared.requests.Request.TheVariants.{Simulate, Make}
+use Rattle.hc_words.specs.declared.settings.Made.{Made}
 use Rattle.hc_words.specs.declared.settings.Settings.{Settings}
 use Rattle.hc_words.specs.Line.{Given, given}
-use Rattle.hc_words.specs.Requests.{IsHorizon, AreSettings, Asks, Ask}
+use Rattle.hc_words.specs.Requests.{IsHorizon, AreSettings, IsMade, Asks, Ask}
 use Rattle.hc_words.specs.declared.actions.Action.{Action}
 use Rattle.hc_words.specs.declared.actions.Action.TheVariants as act
 use Rattle.hc_words.specs.Actions.{name_of_action}
@@ -50,10 +51,27 @@ one_simulation g s u x y =
     (one_horizon g.horizon s.horizon u.horizon x.horizon y.horizon)
     (one_value _ s.limit u.limit x.limit y.limit)
 
+-- that the pairs are in range is one fact
+one_size : (n : ℕ) (k l : (1 ≤ n) × (n ≤ most_pairs)) → k ≡ l
+one_size n = hlevel props
+
+same_made : (m u : Made) → m.pairs ≡ u.pairs → m.seed ≡ u.seed → m ≡ u
+same_made m u pairs seed = by m.pairs m.seed pairs seed m.in_range
+  where
+    by : (n s : ℕ) → n ≡ u.pairs → s ≡ u.seed → (l : (1 ≤ n) × (n ≤ most_pairs)) → record { pairs = n; seed = s; in_range = l } ≡ u
+    by n s is_pairs is_seed =
+        let Same : ℕ → ℕ → Type 0 = λ n s. (l : (1 ≤ n) × (n ≤ most_pairs)) → record { pairs = n; seed = s; in_range = l } ≡ u in
+        let here : Same u.pairs u.seed = λ l. ap (λ l. record { pairs = u.pairs; seed = u.seed; in_range = l }) (one_size u.pairs l u.in_range) in
+        subst (λ n. Same n s) (sym is_pairs) (subst (λ s. Same u.pairs s) (sym is_seed) here)
+
+one_made : (g : Given) (m u : Made) → IsMade g m → IsMade g u → m ≡ u
+one_made g m u x y = same_made m u (one_value _ m.pairs u.pairs x.pairs y.pairs) (one_value _ m.seed u.seed x.seed y.seed)
+
 one_asked : (action : Action) (g : Given) (r s : Request) → Asks action g r → Asks action g s → r ≡ s
 one_asked act.Check g r s x y = x ∙ sym y
 one_asked act.Print g r s x y = x ∙ sym y
 one_asked act.Simulate g r s x y = x.2 ∙ ap Simulate (one_simulation g x.0 y.0 x.1 y.1) ∙ sym y.2
+one_asked act.Make g r s x y = x.2 ∙ ap Make (one_made g x.0 y.0 x.1 y.1) ∙ sym y.2
 
 pub one_request : (words : List Text) (r s : Request) → Ask words r → Ask words s → r ≡ s
 one_request words r s x y =

@@ -1,22 +1,39 @@
--- The options of a simulation are options of the command.
-use Rattle.std.proofs.Common.{refl}
+-- Settings are arguments of the command.
+use Rattle.std.proofs.Common.{◌≡◌, false, refl}
 use Rattle.std.specs.Prelude.{codes}
 use Rattle.clap.specs.Walk.{Rule}
-use Rattle.clap.specs.Simple.{Shape, built, filled}
+use Rattle.clap.specs.Simple.{Shape, built, filled, with_index}
 use Rattle.clap.proofs.OnLiterals.{clap_on_literals}
-use Rattle.hc_words.specs.Line.{hcsp, option_rule}
-use Rattle.hc_words.specs.Order.{Setting, seed, horizon, limit, name_of}
+use Rattle.hc_words.specs.Line.{hcsp, word_rule, option_rule}
+use Rattle.hc_words.specs.Order.{Setting, number, seed, horizon, limit, name_of, is_number}
 use Rattle.hc_words.proofs.Uses.{first_use}
-use Rattle.hc_words.proofs.Steps.{IsOption}
+use Rattle.hc_words.proofs.Steps.{IsOption, IsWord}
 
 -- the command, as it is built
 unfoldable pub shape : Shape
 unfolding hcsp
 shape = (built hcsp).top
 
--- the argument of an option
+-- the argument of a setting
 unfoldable pub rule_at : Setting → Rule
-rule_at k = filled (option_rule (name_of k))
+rule_at number = with_index 2 (filled (word_rule (codes "N")))
+rule_at seed = filled (option_rule (codes "seed"))
+rule_at horizon = filled (option_rule (codes "horizon"))
+rule_at limit = filled (option_rule (codes "limit"))
+
+pub number_is_word : IsWord shape 2 (codes "N") (rule_at number)
+unfolding shape rule_at hcsp clap_on_literals
+number_is_word = record {
+  by_index = refl;
+  by_id = refl;
+  id = refl;
+  several = refl;
+  multiple = refl;
+  next = refl;
+  trailing = refl;
+  passes = λ v rows none. rw none refl;
+  uses = λ v rows none. first_use (codes "N") v rows none;
+}
 
 pub seed_is_option : IsOption shape (codes "seed") (rule_at seed)
 unfolding shape rule_at hcsp clap_on_literals
@@ -57,7 +74,8 @@ limit_is_option = record {
   uses = λ v rows none. first_use (codes "limit") v rows none;
 }
 
-pub is_option : (k : Setting) → IsOption shape (name_of k) (rule_at k)
-is_option seed = seed_is_option
-is_option horizon = horizon_is_option
-is_option limit = limit_is_option
+pub is_option : (k : Setting) → is_number k ≡ false → IsOption shape (name_of k) (rule_at k)
+is_option number e = cc e
+is_option seed e = seed_is_option
+is_option horizon e = horizon_is_option
+is_option limit e = limit_is_option

@@ -82,24 +82,24 @@ taken_by_level name words passes =
 -- ---- all of it
 
 pub all_walked : (x : ℕ) (v : Text) (words : List Text) (rows : List Row) → (x == 45) ≡ false → (led : Leads shape (acting (x ∷ v)) 2 words rows) →
-    walk shape.rules [] nothing_held ((x ∷ v) ∷ words) ≡ standing led.place idle 2
+    walk shape.rules [] nothing_held ((x ∷ v) ∷ words) ≡ standing led.place idle led.position
 all_walked x v words rows e led = ap (λ (w : Walk). fold (walked shape.rules []) w words) (action_walked x v e) ∙ led.walks
 
-nothing_passes : (h : Held) → walk_passes shape [] (standing h idle 2) [] ≡ true
+nothing_passes : (h : Held) (n : ℕ) → walk_passes shape [] (standing h idle n) [] ≡ true
 unfolding walk_passes
-nothing_passes h = refl
+nothing_passes h n = refl
 
 all_passes : (x : ℕ) (v : Text) (words : List Text) (rows : List Row) → (x == 45) ≡ false → Leads shape (acting (x ∷ v)) 2 words rows →
     walk_passes shape [] (walk_from nothing_held) ((x ∷ v) ∷ words) ≡ true
 all_passes x v words rows e led =
     passes_on shape (walk_from nothing_held) (standing (acting (x ∷ v)) idle 2) (x ∷ v) words (action_passes x v e) (action_walked x v e)
-    (subst (λ ws. walk_passes shape [] (standing (acting (x ∷ v)) idle 2) ws ≡ true) (append-nil words) (led.passes [] (nothing_passes led.place)))
+    (subst (λ ws. walk_passes shape [] (standing (acting (x ∷ v)) idle 2) ws ≡ true) (append-nil words) (led.passes [] (nothing_passes led.place led.position)))
 
 pub led_taken : (name : Text) (x : ℕ) (v : Text) (words : List Text) (rows : List Row) → (x == 45) ≡ false → Leads shape (acting (x ∷ v)) 2 words rows →
     takes hcsp (name ∷ (x ∷ v) ∷ words) ≡ true
 led_taken name x v words rows e led =
     taken_by_level name ((x ∷ v) ∷ words)
-    (level ((x ∷ v) ∷ words) led.place 2 (all_walked x v words rows e led) (all_passes x v words rows e led) led.reached.settles)
+    (level ((x ∷ v) ∷ words) led.place led.position (all_walked x v words rows e led) (all_passes x v words rows e led) led.reached.settles)
 
 -- ---- and finds nothing against them
 

@@ -7,7 +7,7 @@ use Rattle.std.specs.List.{list_all}
 use Rattle.std.specs.Str.Parse.{digits_value}
 use Rattle.std.proofs.lemmas.Bool.{and_parts}
 use Rattle.std.proofs.lemmas.Fmt.{first_decimal}
-use Rattle.hc_limits.specs.Limits.{most_steps}
+use Rattle.hc_limits.specs.Limits.{most_pairs, most_steps}
 use Rattle.clap.specs.Walk.{Text}
 use Rattle.hc_rational.specs.Words.{Rational, is_positive, IsFrac}
 use Rattle.hc_rational.proofs.FitsLaws.{num_fits}
@@ -15,7 +15,7 @@ use Rattle.hc_frac.specs.Text.{text_of}
 use Rattle.hc_token.specs.declared.token.Token.{Token}
 use Rattle.hc_token.specs.Tokens.{tokens_of}
 use Rattle.hc_words.specs.Numbers.{is_digits, in_decimal, number_within, IsFractionText, fraction, decimal as of_decimal}
-use Rattle.hc_words.specs.Order.{Setting, seed, horizon, limit, IsRight}
+use Rattle.hc_words.specs.Order.{Setting, number, seed, horizon, limit, IsRight}
 
 -- the text isn't empty, and doesn't begin with `-`
 abbrev pub BeginsPlain : Text → Type 0
@@ -68,15 +68,16 @@ text_plain : (q : Rational) (t : Text) → IsFrac q → text_of q ≡ t → is_p
 text_plain q t fits e positive =
     subst BeginsPlain e (first_plain (text_of q) (text_first (q.den == 1) q.num (47 ∷ decimal q.den) (signed_first q.num positive (num_fits q fits))))
 
-decimal_plain : (t : Text) (number end : Token) → list_all in_decimal t ≡ true → tokens_of t ≡ number ∷ end ∷ [] → BeginsPlain t
-decimal_plain [] number end all e = absurd (omega (arith, ap length e))
-decimal_plain (x ∷ v) number end all e = in_decimal_plain x (and_parts (in_decimal x) (list_all in_decimal v) all).0
+decimal_plain : (t : Text) (first end : Token) → list_all in_decimal t ≡ true → tokens_of t ≡ first ∷ end ∷ [] → BeginsPlain t
+decimal_plain [] first end all e = absurd (omega (arith, ap length e))
+decimal_plain (x ∷ v) first end all e = in_decimal_plain x (and_parts (in_decimal x) (list_all in_decimal v) all).0
 
 fraction_plain : (t : Text) (q : Rational) → IsFractionText t q → is_positive q ≡ true → BeginsPlain t
 fraction_plain t q (fraction fits e) positive = text_plain q t fits e positive
 fraction_plain t q (of_decimal d is e) positive = decimal_plain t is.number is.end is.plain is.tokens
 
 pub right_plain : (k : Setting) (t : Text) → IsRight k t → BeginsPlain t
+right_plain number t h = number_plain 1 most_pairs h.0 t h.1
 right_plain seed t h = number_plain 0 18446744073709551615 h.0 t h.1
 right_plain horizon t h = fraction_plain t h.0 h.1 h.2
 right_plain limit t h = number_plain 1 most_steps h.0 t h.1

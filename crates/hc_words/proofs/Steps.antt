@@ -1,9 +1,9 @@
--- One word, or two, of an option with its value: where the walk stands behind it, and that it passes.
-use Rattle.std.proofs.Common.{◌≡◌, refl, ap, ◌∙◌, ℕ, ◌==◌, true, false, List, [], ◌∷◌, ◌++◌, Some, None}
+-- A word by its place, and one word or two of an option with its value: where the walk stands behind it, and that it passes.
+use Rattle.std.proofs.Common.{◌≡◌, refl, ap, ◌∙◌, ℕ, ◌+◌, ◌==◌, Bool, true, false, ◌&&◌, ◌||◌, List, [], ◌∷◌, ◌++◌, Some, None}
 use Rattle.std.specs.Str.{bytes_eq}
 use Rattle.std.proofs.lemmas.Bool.{and_from}
 use Rattle.clap.specs.Lexer.{long_of}
-use Rattle.clap.specs.Walk.{Held, Row, Rule, Step, Text, Waiting, Walk, idle, option, positional, after_step, arg_by_id, arg_by_long, takes_values, most_values, has_row, used, settled, settled_rows, reacted, plain_word, word_met, walked}
+use Rattle.clap.specs.Walk.{Held, Row, Rule, Step, Text, Waiting, Walk, idle, option, positional, value, after_step, arg_by_id, arg_by_index, arg_by_long, takes_values, takes_several, is_multiple, next_position, is_pending, most_values, has_row, used, settled, settled_rows, reacted, plain_word, word_met, walked}
 use Rattle.clap.specs.Simple.{Shape}
 use Rattle.clap.specs.Takes.{other_passes, settle_passes, step_passes, use_passes, turn_passes}
 use Rattle.hc_words.proofs.Uses.{row_for}
@@ -23,6 +23,18 @@ pub record IsOption (s : Shape) (name : Text) (a : Rule) : Type 0 where
   pub passes : (v : Text) (rows : List Row) → has_row name rows ≡ false → use_passes s.args_override_self a (v ∷ []) rows ≡ true
   pub uses : (v : Text) (rows : List Row) → has_row name rows ≡ false → used a (v ∷ []) rows ≡ rows ++ row_for name v ∷ []
 
+-- the argument is the word of this place, alone there
+pub record IsWord (s : Shape) (n : ℕ) (name : Text) (a : Rule) : Type 0 where
+  pub by_index : arg_by_index s.rules n ≡ Some a
+  pub by_id : arg_by_id s.rules name ≡ Some a
+  pub id : a.id ≡ name
+  pub several : takes_several a ≡ false
+  pub multiple : is_multiple a ≡ false
+  pub next : next_position a n ≡ n + 1
+  pub trailing : a.trailing_var_arg ≡ false
+  pub passes : (v : Text) (rows : List Row) → has_row name rows ≡ false → use_passes s.args_override_self a (v ∷ []) rows ≡ true
+  pub uses : (v : Text) (rows : List Row) → has_row name rows ≡ false → used a (v ∷ []) rows ≡ rows ++ row_for name v ∷ []
+
 -- what is pending passes, and with it these are the rows
 pub record Reached (s : Shape) (h : Held) (rows : List Row) : Type 0 where
   pub settles : settle_passes s.rules s.args_override_self h ≡ true
@@ -38,6 +50,43 @@ plain_met c positional n x v h e = simp e
 -- such a word passes where it is read
 pub plain_passes : (s : Shape) (x : ℕ) (v : Text) (h : Held) → (x == 45) ≡ false → other_passes s None (x ∷ v) h ≡ true
 plain_passes s x v h e = simp e
+
+-- ---- a word by its place
+
+not_both : (b : Bool) → (b && false) ≡ false
+not_both true = refl
+not_both false = refl
+
+either : (b : Bool) → (b || true) ≡ true
+either true = refl
+either false = refl
+
+module _ (s : Shape) (place : ℕ) (name : Text) (a : Rule) (o : IsWord s place name a) (h : Held) (rows : List Row) (reached : Reached s h rows)
+    (none : has_row name rows ≡ false) where
+  abbrev pub put : Text → Held
+  put v = record (settled s.rules h) { pending = Some (name, v ∷ []) }
+
+  word_placed : (v : Text) → after_step s.rules v (standing h idle place) h value ≡ standing (put v) idle (place + 1)
+  word_placed v = rw (o.by_index, o.next, o.multiple, o.several, not_both (is_pending a h.pending), o.trailing, o.id) refl
+
+  pub word_walked : (x : ℕ) (v : Text) → (x == 45) ≡ false → walked s.rules [] (standing h idle place) (x ∷ v) ≡ standing (put (x ∷ v)) idle (place + 1)
+  unfolding walked
+  word_walked x v e =
+      ap (λ (m : Held × Step). after_step s.rules (x ∷ v) (standing h idle place) m.0 m.1) (plain_met s.rules idle place x v h e) ∙ word_placed (x ∷ v)
+
+  placed_passes : step_passes s place h value ≡ true
+  placed_passes = rw (o.by_index, reached.settles, either (is_pending a h.pending && takes_several a)) refl
+
+  pub word_passes : (x : ℕ) (v : Text) → (x == 45) ≡ false → turn_passes s [] (standing h idle place) (x ∷ v) ≡ true
+  word_passes x v e =
+      and_from _ _ (plain_passes s x v h e)
+      (ap (λ (m : Held × Step). step_passes s place m.0 m.1) (plain_met s.rules idle place x v h e) ∙ placed_passes)
+
+  pub word_reached : (v : Text) → Reached s (put v) (rows ++ row_for name v ∷ [])
+  word_reached v = record {
+    settles = rw (o.by_id, reached.rows_are, o.passes v rows none) refl;
+    rows_are = rw (o.by_id, reached.rows_are) (o.uses v rows none);
+  }
 
 -- ---- `--name=value`
 

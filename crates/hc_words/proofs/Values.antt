@@ -1,6 +1,6 @@
 -- An action and choices behind it: the matches are the values of the choices.
-use Rattle.std.proofs.Common.{◌≡◌, refl, ap, sym, subst, ◌∙◌, ℕ, ◌==◌, Bool, true, false, List, [], ◌∷◌, ◌++◌, map, drop, take, Option, Some, None, if◌then◌else◌}
-use Rattle.std.specs.Prelude.{codes, fold}
+use Rattle.std.proofs.Common.{◌≡◌, refl, ap, subst, ◌∙◌, ℕ, ◌==◌, Bool, true, false, List, [], ◌∷◌, ◌++◌, map, drop, take, Option, Some, None, cond, if◌then◌else◌}
+use Rattle.std.specs.Prelude.{codes, find, fold, option_and_then, slice_get}
 use Rattle.std.specs.List.{All, list_all}
 use Rattle.std.specs.Str.{bytes_eq}
 use Rattle.std.proofs.lemmas.Bool.{and_parts}
@@ -14,8 +14,8 @@ use Rattle.clap.proofs.OnLiterals.{clap_on_literals}
 use Rattle.hc_words.specs.Line.{hcsp, flag_rule}
 use Rattle.hc_words.specs.declared.actions.Room.{Room}
 use Rattle.hc_words.specs.Actions.{allows}
-use Rattle.hc_words.specs.Order.{Setting, seed, horizon, limit, name_of, Choice, IsRight, has, said}
-use Rattle.hc_words.proofs.Uses.{row_for, first_values}
+use Rattle.hc_words.specs.Order.{Setting, number, seed, horizon, limit, name_of, Choice, IsRight, has, said}
+use Rattle.hc_words.proofs.Uses.{first_values}
 use Rattle.hc_words.proofs.Steps.{Reached}
 use Rattle.hc_words.proofs.Choices.{Leads, row_of_choice}
 use Rattle.hc_words.proofs.Options.{shape}
@@ -109,23 +109,36 @@ pub passed_over : (id : Text) → ((k : Setting) → bytes_eq (name_of k) id ≡
 passed_over id other [] tail = refl
 passed_over id other (c ∷ cs) tail = rw (other c.setting) (passed_over id other cs tail)
 
--- the value of an option that is found is the one that is said
+-- settings of one name are one setting
+same_setting : (j k : Setting) → bytes_eq (name_of j) (name_of k) ≡ true → j ≡ k
+same_setting number number e = refl
+same_setting number seed e = cc e
+same_setting number horizon e = cc e
+same_setting number limit e = cc e
+same_setting seed number e = cc e
+same_setting seed seed e = refl
+same_setting seed horizon e = cc e
+same_setting seed limit e = cc e
+same_setting horizon number e = cc e
+same_setting horizon seed e = cc e
+same_setting horizon horizon e = refl
+same_setting horizon limit e = cc e
+same_setting limit number e = cc e
+same_setting limit seed e = cc e
+same_setting limit horizon e = cc e
+same_setting limit limit e = refl
+
+-- the value of a setting that is found is the one that is said
 pub first_said : (k : Setting) (cs : List Choice) (tail : List Row) → first_of (name_of k) tail ≡ None →
     first_of (name_of k) (map row_of_choice cs ++ tail) ≡ said k cs
 first_said k [] tail none = none
-first_said k (c ∷ cs) tail none = go k c.setting c.value (map row_of_choice cs ++ tail) (said k cs) (first_said k cs tail none)
+first_said k (c ∷ cs) tail none = go (bytes_eq (name_of c.setting) (name_of k)) (map row_of_choice cs ++ tail) (first_said k cs tail none)
   where
-    go : (k j : Setting) (v : Text) (rest : List Row) (more : Option Text) → first_of (name_of k) rest ≡ more →
-        first_of (name_of k) (row_for (name_of j) v ∷ rest) ≡ (if bytes_eq (name_of j) (name_of k) then Some v else more)
-    go seed seed v rest more e = refl
-    go seed horizon v rest more e = e
-    go seed limit v rest more e = e
-    go horizon seed v rest more e = e
-    go horizon horizon v rest more e = refl
-    go horizon limit v rest more e = e
-    go limit seed v rest more e = e
-    go limit horizon v rest more e = e
-    go limit limit v rest more e = refl
+    go : (b : Bool) (rest : List Row) → first_of (name_of k) rest ≡ said k cs →
+        option_and_then (λ (r : Row). slice_get r.values 0) (cond b (Some (row_of_choice c)) (find (λ r. bytes_eq r.id (name_of k)) rest))
+        ≡ (if b then Some c.value else said k cs)
+    go true rest same = refl
+    go false rest same = same
 
 -- a value that is said is right
 abbrev pub IsRightIn : Setting → Option Text → Type 0
@@ -135,40 +148,28 @@ IsRightIn k (Some t) = IsRight k t
 pub said_right : (k : Setting) (cs : List Choice) → All (λ c. IsRight c.setting c.value) cs → IsRightIn k (said k cs)
 said_right k [] right = tt
 said_right k (c ∷ cs) right =
-    go k c.setting c.value (said k cs) (All-head (λ (d : Choice). IsRight d.setting d.value) c cs right)
+    go (bytes_eq (name_of c.setting) (name_of k)) refl (All-head (λ (d : Choice). IsRight d.setting d.value) c cs right)
     (said_right k cs (All-tail (λ (d : Choice). IsRight d.setting d.value) c cs right))
   where
-    go : (k j : Setting) (v : Text) (more : Option Text) → IsRight j v → IsRightIn k more → IsRightIn k (if bytes_eq (name_of j) (name_of k) then Some v else more)
-    go seed seed v more right rest = right
-    go seed horizon v more right rest = rest
-    go seed limit v more right rest = rest
-    go horizon seed v more right rest = rest
-    go horizon horizon v more right rest = right
-    go horizon limit v more right rest = rest
-    go limit seed v more right rest = rest
-    go limit horizon v more right rest = rest
-    go limit limit v more right rest = right
+    go : (b : Bool) → bytes_eq (name_of c.setting) (name_of k) ≡ b → IsRight c.setting c.value → IsRightIn k (said k cs) →
+        IsRightIn k (if b then Some c.value else said k cs)
+    go true e here rest = subst (λ j. IsRight j c.value) (same_setting c.setting k e) here
+    go false e here rest = rest
 
 -- what is said has room
 pub said_allowed : (room : Room) (k : Setting) (cs : List Choice) → list_all (λ c. has room c.setting) cs ≡ true → allows (has room k) (said k cs) ≡ true
 said_allowed room k [] belong = refl
 said_allowed room k (c ∷ cs) belong =
     let both = and_parts (has room c.setting) (list_all (λ (d : Choice). has room d.setting) cs) belong in
-    go k c.setting c.value (said k cs) both.0 (said_allowed room k cs both.1)
+    go (bytes_eq (name_of c.setting) (name_of k)) refl both.0 (said_allowed room k cs both.1)
   where
-    go : (k j : Setting) (v : Text) (more : Option Text) → has room j ≡ true → allows (has room k) more ≡ true →
-        allows (has room k) (if bytes_eq (name_of j) (name_of k) then Some v else more) ≡ true
-    go seed seed v more e rest = e
-    go seed horizon v more e rest = rest
-    go seed limit v more e rest = rest
-    go horizon seed v more e rest = rest
-    go horizon horizon v more e rest = e
-    go horizon limit v more e rest = rest
-    go limit seed v more e rest = rest
-    go limit horizon v more e rest = rest
-    go limit limit v more e rest = e
+    go : (b : Bool) → bytes_eq (name_of c.setting) (name_of k) ≡ b → has room c.setting ≡ true → allows (has room k) (said k cs) ≡ true →
+        allows (has room k) (if b then Some c.value else said k cs) ≡ true
+    go true e here rest = subst (λ j. has room j ≡ true) (same_setting c.setting k e) here
+    go false e here rest = rest
 
 pub not_report : (k : Setting) → bytes_eq (name_of k) (codes "report") ≡ false
+not_report number = refl
 not_report seed = refl
 not_report horizon = refl
 not_report limit = refl

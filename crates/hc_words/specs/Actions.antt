@@ -2,7 +2,7 @@
 use Rattle.std.specs.Prelude.{Bool, true, false, not, ◌&&◌, ◌||◌, Option, Some, None, codes}
 use Rattle.clap.specs.Walk.{Text}
 use Rattle.hc_words.specs.declared.actions.Action.{Action}
-use Rattle.hc_words.specs.declared.actions.Action.TheVariants.{Check, Print, Simulate}
+use Rattle.hc_words.specs.declared.actions.Action.TheVariants.{Check, Print, Simulate, Make}
 use Rattle.hc_words.specs.declared.actions.Room.{Room}
 use Rattle.hc_words.specs.Line.{Given}
 
@@ -10,6 +10,7 @@ abbrev pub name_of_action : Action → Text
 name_of_action Check = codes "check"
 name_of_action Print = codes "print"
 name_of_action Simulate = codes "simulate"
+name_of_action Make = codes "make"
 
 abbrev pub nothing : Room
 nothing = record { number = false; seed = false; horizon = false; limit = false; workers = false; steps = false; report = false }
@@ -19,6 +20,7 @@ abbrev pub room_of : Action → Room
 room_of Check = nothing
 room_of Print = nothing
 room_of Simulate = record nothing { seed = true; horizon = true; limit = true }
+room_of Make = record nothing { number = true; seed = true }
 
 -- N is given exactly where it's wanted
 abbrev pub is_wanted : Bool → Option Text → Bool

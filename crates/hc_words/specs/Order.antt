@@ -1,40 +1,52 @@
--- Words in order: an action, and behind it options of its own.
+-- Words in order: an action, and behind it what belongs to it.
 use Rattle.std.specs.Prelude.{◌≡◌, ℕ, Bool, true, false, not, ◌&&◌, List, [], ◌∷◌, ◌++◌, flat_map, Option, Some, None, codes, IsTrue, if◌then◌else◌}
 use Rattle.std.specs.List.{All, list_all}
 use Rattle.std.specs.Str.{bytes_eq}
-use Rattle.hc_limits.specs.Limits.{most_steps}
+use Rattle.hc_limits.specs.Limits.{most_pairs, most_steps}
 use Rattle.clap.specs.Walk.{Text}
 use Rattle.hc_rational.specs.Words.{Rational, is_positive}
 use Rattle.hc_words.specs.declared.actions.Action.{Action}
 use Rattle.hc_words.specs.declared.actions.Room.{Room}
-use Rattle.hc_words.specs.Actions.{name_of_action, room_of}
+use Rattle.hc_words.specs.Actions.{name_of_action, room_of, is_wanted}
 use Rattle.hc_words.specs.Line.{Given}
 use Rattle.hc_words.specs.Numbers.{number_within, IsFractionText}
 
--- an option of a simulation
+-- what may stand behind an action: N, or an option
 pub data Setting : Type 0 where
+  number : Setting
   seed : Setting
   horizon : Setting
   limit : Setting
 
 abbrev pub name_of : Setting → Text
+name_of number = codes "N"
 name_of seed = codes "seed"
 name_of horizon = codes "horizon"
 name_of limit = codes "limit"
 
--- an option with its value: `--name=value`, or `--name value`
+-- N stands for itself, without its name
+abbrev pub is_number : Setting → Bool
+is_number number = true
+is_number _ = false
+
+-- a setting with its value
 pub record Choice : Type 0 where
   pub setting : Setting
   pub is_joined : Bool
   pub value : Text
 
-abbrev pub words_of : Choice → List Text
-words_of c =
+-- an option is `--name=value`, or `--name value`
+abbrev pub option_words : Choice → List Text
+option_words c =
     let flag = 45 ∷ 45 ∷ name_of c.setting in
     if c.is_joined then (flag ++ 61 ∷ c.value) ∷ [] else flag ∷ c.value ∷ []
 
+abbrev pub words_of : Choice → List Text
+words_of c = if is_number c.setting then c.value ∷ [] else option_words c
+
 -- the value is in form and in range; so it isn't empty, and doesn't begin with `-`
 abbrev pub IsRight : Setting → Text → Type 0
+IsRight number t = (n : ℕ) × (number_within 1 most_pairs t ≡ Some n)
 IsRight seed t = (n : ℕ) × (number_within 0 18446744073709551615 t ≡ Some n)
 IsRight horizon t = (q : Rational) × IsFractionText t q × IsTrue (is_positive q)
 IsRight limit t = (n : ℕ) × (number_within 1 most_steps t ≡ Some n)
@@ -42,36 +54,39 @@ IsRight limit t = (n : ℕ) × (number_within 1 most_steps t ≡ Some n)
 abbrev pub is_other : Choice → Choice → Bool
 is_other c d = not (bytes_eq (name_of c.setting) (name_of d.setting))
 
--- each option at most once
+-- each setting at most once
 abbrev pub are_apart : List Choice → Bool
 are_apart [] = true
 are_apart (c ∷ cs) = list_all (is_other c) cs && are_apart cs
 
--- the action has room for the option
+-- the action has room for the setting
 abbrev pub has : Room → Setting → Bool
+has room number = room.number
 has room seed = room.seed
 has room horizon = room.horizon
 has room limit = room.limit
 
--- the program's name, an action, and options that belong to it, in any order, each at most once, with values that are right
+-- the value of a setting, where it's chosen
+abbrev pub said : Setting → List Choice → Option Text
+said k [] = None
+said k (c ∷ cs) = if bytes_eq (name_of c.setting) (name_of k) then Some c.value else said k cs
+
+-- the program's name, an action, and behind it, in any order, N exactly where the action wants it, and options that belong to
+-- the action, each at most once, all with values that are right
 pub record AreInOrder (words : List Text) : Type 0 where
   pub name : Text
   pub action : Action
   pub choices : List Choice
   pub apart : IsTrue (are_apart choices)
   pub belong : IsTrue (list_all (λ c. has (room_of action) c.setting) choices)
+  pub wanted : IsTrue (is_wanted (room_of action).number (said number choices))
   pub right : All (λ c. IsRight c.setting c.value) choices
   pub words_are : words ≡ name ∷ name_of_action action ∷ flat_map words_of choices
-
--- the value of an option, where it's chosen
-abbrev pub said : Setting → List Choice → Option Text
-said k [] = None
-said k (c ∷ cs) = if bytes_eq (name_of c.setting) (name_of k) then Some c.value else said k cs
 
 -- what the choices give
 abbrev pub given_by : List Choice → Given
 given_by cs = record {
-  number = None;
+  number = said number cs;
   seed = said seed cs;
   horizon = said horizon cs;
   limit = said limit cs;

@@ -1,13 +1,14 @@
 -- What the words of a call ask for.
 use Rattle.std.specs.Prelude.{◌≡◌, ℕ, List, Option, Some, None, pos, slice_get, IsTrue}
-use Rattle.hc_limits.specs.Limits.{most_steps, default_steps, default_horizon}
+use Rattle.hc_limits.specs.Limits.{most_pairs, most_steps, default_steps, default_horizon}
 use Rattle.clap.specs.Walk.{Text}
 use Rattle.hc_rational.specs.Words.{Rational, is_positive}
 use Rattle.hc_rational.specs.Rational.{whole}
 use Rattle.hc_words.specs.declared.actions.Action.{Action}
 use Rattle.hc_words.specs.declared.actions.Action.TheVariants as act
 use Rattle.hc_words.specs.declared.requests.Request.{Request}
-use Rattle.hc_words.specs.declared.requests.Request.TheVariants.{Check, Print, Simulate}
+use Rattle.hc_words.specs.declared.requests.Request.TheVariants.{Check, Print, Simulate, Make}
+use Rattle.hc_words.specs.declared.settings.Made.{Made}
 use Rattle.hc_words.specs.declared.settings.Settings.{Settings}
 use Rattle.hc_words.specs.Actions.{name_of_action, belongs}
 use Rattle.hc_words.specs.Line.{Given, is_taken, given}
@@ -34,11 +35,22 @@ pub record AreSettings (g : Given) (s : Settings) : Type 0 where
   pub horizon : IsHorizon g.horizon s.horizon
   pub limit : limit_in g.limit ≡ Some s.limit
 
+-- the pairs of a made source: N, which has to be given, and 1 to 32
+abbrev pub pairs_in : Option Text → Option ℕ
+pairs_in None = None
+pairs_in (Some t) = number_within 1 most_pairs t
+
+-- this is the source that is to be made
+pub record IsMade (g : Given) (m : Made) : Type 0 where
+  pub pairs : pairs_in g.number ≡ Some m.pairs
+  pub seed : seed_in g.seed ≡ Some m.seed
+
 -- what an action asks for, by the values that stand behind it
 abbrev pub Asks : Action → Given → Request → Type 0
 Asks act.Check g r = r ≡ Check
 Asks act.Print g r = r ≡ Print
 Asks act.Simulate g r = (s : Settings) × AreSettings g s × (r ≡ Simulate s)
+Asks act.Make g r = (m : Made) × IsMade g m × (r ≡ Make m)
 
 -- the words ask for this: clap takes them, and behind the program's name stands an action with what belongs to it
 pub record Ask (words : List Text) (request : Request) : Type 0 where

@@ -13,6 +13,7 @@ pub enum Action {
     Check,
     Print,
     Simulate,
+    Make,
 }
 
 /// What stands behind an action: N where it must, each option and the flag where they may.
@@ -46,6 +47,7 @@ pub(crate) fn action_named(name: &str) -> Option<Action>
         "check" => Some(Action::Check),
         "print" => Some(Action::Print),
         "simulate" => Some(Action::Simulate),
+        "make" => Some(Action::Make),
         _ => None,
     }
 }
@@ -60,6 +62,11 @@ fn room_of(action: Action) -> Room
             seed: true,
             horizon: true,
             limit: true,
+            ..NOTHING
+        },
+        Action::Make => Room {
+            number: true,
+            seed: true,
             ..NOTHING
         },
     }

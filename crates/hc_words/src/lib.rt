@@ -10,4 +10,4 @@ mod settings;
 
 pub use laws::call_laws;
 pub use requests::{Request, WordsStop, asked_for};
-pub use settings::Settings;
+pub use settings::{Made, Settings};

@@ -8,14 +8,15 @@ ghost use Rattle.hc_rational.specs.Words.{Rational};
 ghost use Rattle.hc_words.specs.Requests as spec;
 ghost use Rattle.hc_words.specs.Seen.{seen, IsRequested};
 ghost use Rattle.hc_words.specs.declared.requests.Request as asked;
+ghost use Rattle.hc_words.specs.declared.settings.Made as make;
 ghost use Rattle.hc_words.specs.declared.settings.Settings as set;
 
 use crate::actions::{Action, action_named, belongs};
 use crate::line::{Given, read_words};
 use crate::numbers::{number_within, positive_fraction};
-use crate::settings::Settings;
+use crate::settings::{Made, Settings};
 use hc_frac::Frac;
-use hc_limits::{DEFAULT_HORIZON, DEFAULT_STEPS, MOST_STEPS};
+use hc_limits::{DEFAULT_HORIZON, DEFAULT_STEPS, MOST_PAIRS, MOST_STEPS};
 use std::alloc::Global;
 
 /// What the words ask for.
@@ -27,6 +28,8 @@ pub enum Request {
     Print,
     /// To simulate the source that is read.
     Simulate(Settings),
+    /// To make a source, simulate it, and tell the size of its run.
+    Make(Made),
 }
 
 /// Why the words ask for nothing.
@@ -74,6 +77,10 @@ fn request_by(action: Action, given: &Given<'_>) -> Option<Request>
             let settings = settings_of(given)?;
             Some(Request::Simulate(settings))
         }
+        Action::Make => {
+            let made = made_of(given)?;
+            Some(Request::Make(made))
+        }
     }
 }
 
@@ -90,6 +97,28 @@ fn settings_of(given: &Given<'_>) -> Option<Settings>
         horizon,
         limit,
     })
+}
+
+/// The made source that is given: N pairs, and the seed where it isn't 0.
+fn made_of(given: &Given<'_>) -> Option<Made>
+    ensures some { IfSome result (spec.IsMade (seen given.now)) }
+    ensures none { result ≡ None → (m : make.Made) → spec.IsMade (seen given.now) m → ⊥ }
+{
+    let pairs = pairs_of(given.number)?;
+    let seed = seed_of(given.seed)?;
+    Some(Made { pairs, seed })
+}
+
+fn pairs_of(text: Option<&str>) -> Option<u32>
+    ensures { result ≡ spec.pairs_in (option_map (λ s. s.now) text.entry) }
+{
+    match text {
+        Some(text) => match number_within(1, MOST_PAIRS as u64, text) {
+            Some(pairs) => Some(pairs as u32),
+            None => None,
+        },
+        None => None,
+    }
 }
 
 fn seed_of(text: Option<&str>) -> Option<u64>

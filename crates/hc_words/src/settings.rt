@@ -1,7 +1,7 @@
-//! The settings of a simulation.
+//! What requests set.
 
 ghost use Rattle.std.specs.Prelude.{◌≤◌, IsTrue};
-ghost use Rattle.hc_limits.specs.Limits.{most_steps};
+ghost use Rattle.hc_limits.specs.Limits.{most_pairs, most_steps};
 ghost use Rattle.hc_rational.specs.Words.{is_positive};
 
 use hc_frac::Frac;
@@ -17,4 +17,14 @@ pub struct Settings {
     pub limit: u32,
     pub ghost positive: { IsTrue (is_positive horizon) },
     pub ghost in_range: { (1 ≤ limit) × (limit ≤ most_steps) },
+}
+
+/// A made source.
+#[derive(Clone, Copy, Debug, PartialEq, Eq)]
+pub struct Made {
+    /// The number of its pairs of processes, 1 to 32.
+    pub pairs: u32,
+    /// It draws what varies in the source.
+    pub seed: u64,
+    pub ghost in_range: { (1 ≤ pairs) × (pairs ≤ most_pairs) },
 }

@@ -13,3 +13,6 @@ returns-in-Print c = subst (λ (r : Request). Prepares (Answers r c.args.text.no
 pub returns-in-Simulate : goal.returns-in-Simulate
 returns-in-Simulate c =
     subst (λ (r : Request). Prepares (Answers r c.args.text.now) c.prepare_simulation.result) (sym c.in-Simulate.is) c.prepare_simulation.ensures
+
+pub returns-in-Make : goal.returns-in-Make
+returns-in-Make c = subst (λ (r : Request). Prepares (Answers r c.args.text.now) c.prepare_made.result) (sym c.in-Make.is) c.prepare_made.ensures

@@ -1,6 +1,6 @@
 use Rattle.std.proofs.Common.{refl, sym, subst}
 use Rattle.hc_words.specs.declared.actions.Action.{Action}
-use Rattle.hc_words.specs.declared.requests.Request.TheVariants.{Simulate}
+use Rattle.hc_words.specs.declared.requests.Request.TheVariants.{Simulate, Make}
 use Rattle.hc_words.specs.Requests.{Asks}
 use Rattle.hc_words.specs.Seen.{seen}
 use Rattle.hc_words.proofs.requests.request_by.Goals as goal
@@ -9,3 +9,8 @@ pub returns-in_ok-settings-in-Simulate-clause-some : goal.returns-in_ok-settings
 returns-in_ok-settings-in-Simulate-clause-some c =
     let settings = c.in_ok-settings-in-Simulate.settings in
     subst (λ (a : Action). Asks a (seen c.args.given.now) (Simulate settings)) (sym c.in-Simulate.is) (settings, c.in_ok-settings-in-Simulate.ensures.some, refl)
+
+pub returns-in_ok-made-in-Make-clause-some : goal.returns-in_ok-made-in-Make-clause-some
+returns-in_ok-made-in-Make-clause-some c =
+    let made = c.in_ok-made-in-Make.made in
+    subst (λ (a : Action). Asks a (seen c.args.given.now) (Make made)) (sym c.in-Make.is) (made, c.in_ok-made-in-Make.ensures.some, refl)
