@@ -1,13 +1,18 @@
 //! How long a delay lasts, and what it does.
 
-ghost use Rattle.std.specs.Prelude.{◌≡◌, map, IsTrue, ◌&&◌, SomeIff};
+ghost use Rattle.std.specs.Prelude.{◌≡◌, ◌<◌, ◌≤◌, length, map, slice_set, IsTrue, ◌&&◌, SomeIff};
 ghost use Rattle.std.specs.List.{list_all};
 ghost use Rattle.hc_rational.specs.Words.{◌+ℚ◌, ◌-ℚ◌, lesser, fits, IsFrac};
 ghost use Rattle.hc_term.specs.Posts.{least_bound, is_timed, length_of_delay, post_fits, passing_for, passing_on};
-ghost use Rattle.hc_term.specs.Moved.{moved_post};
+ghost use Rattle.hc_term.specs.Process.{is_due};
+ghost use Rattle.hc_term.specs.Moved.{less_by, moved_post};
+ghost use Rattle.hc_limits.specs.Limits.{most_processes};
 ghost use Rattle.hc_board.specs.Answers.{answer_of};
+ghost use Rattle.hc_board.specs.MeetingBoard.{shown};
+ghost use Rattle.hc_board.specs.Offered.{IsTableOf};
 
 use crate::delayed::Delayed;
+use crate::offered::Offered;
 use hc_frac::{Frac, earlier};
 use hc_term::Post;
 use std::cmp::Ordering;
@@ -129,12 +134,43 @@ pub(crate) fn passing(posts: &[Post], clock: Frac, horizon: Frac) -> Delayed
     }
 }
 
+/// Whether a bound runs out with the delay.
+fn runs_out(bound: Option<Frac>, by: Frac) -> bool
+    ensures { result ≡ is_due (less_by by bound) }
+{
+    match bound {
+        Some(bound) => bound.same(by),
+        None => false,
+    }
+}
+
+/// Lets so many time units pass for one post. Where its bound runs out it offers nothing.
+fn move_post(posts: &mut [Post], offered: &mut Offered, process: u32, by: Frac)
+    requires there { process < length posts.old }
+    requires within { length posts.old ≤ most_processes }
+    requires fits { IsTrue (post_fits by (shown posts.old process)) }
+    requires tables { IsTableOf offered.old posts.old }
+    ensures posts { posts.new ≡ slice_set posts.old process (moved_post by (shown posts.old process)) }
+    ensures tables { IsTableOf offered.new posts.new }
+{
+    let post = &mut posts[process as usize];
+    if runs_out(post.bound, by) {
+        offered.mark_all(post.offers.as_slice(), process, false);
+        post.move_by(by);
+    } else {
+        post.move_by(by);
+    }
+}
+
 /// Lets so many time units pass for all posts.
-pub(crate) fn move_all(posts: &mut [Post], by: Frac)
-    requires { IsTrue (list_all (post_fits by) posts.old) }
-    ensures { posts.new ≡ map (moved_post by) posts.old }
+pub(crate) fn move_all(posts: &mut [Post], offered: &mut Offered, by: Frac)
+    requires within { length posts.old ≤ most_processes }
+    requires fits { IsTrue (list_all (post_fits by) posts.old) }
+    requires tables { IsTableOf offered.old posts.old }
+    ensures posts { posts.new ≡ map (moved_post by) posts.old }
+    ensures tables { IsTableOf offered.new posts.new }
 {
     for at in 0..posts.len() {
-        posts[at].move_by(by);
+        move_post(posts, offered, at as u32, by);
     }
 }

@@ -1,11 +1,13 @@
 //! The board on which the processes of a system post what they show, where they meet, and on which time passes.
 #![tactic(auto)]
 
+mod bits;
 mod board;
 mod delayed;
 mod delays;
 mod laws;
 mod meetings;
+mod offered;
 #[cfg(test)]
 mod tests;
 
