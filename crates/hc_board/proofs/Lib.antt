@@ -5,6 +5,6 @@ pub mod Found
 pub mod DelayLength
 pub mod Bitwise
 pub mod Marking
-pub mod Tables
-pub mod MovedTables
-pub mod ReadyTables
+pub mod IndexOf
+pub mod MovedIndex
+pub mod ReadyIndex

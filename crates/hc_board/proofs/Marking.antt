@@ -1,4 +1,4 @@
--- What the tables are after a mark is set.
+-- What the index is after a mark is set.
 use Rattle.std.proofs.Common.{◌≡◌, ◌≢◌, ◌<◌, ℕ, ◌^◌, Bool, true, false, not, ◌&&◌, ◌||◌, ◌==◌, if◌then◌else◌, List, [], ◌∷◌, length, Some, None, is_some, refl, sym, ap, subst, ◌∙◌, inl, inr, arith}
 use Rattle.std.specs.List.{list_any}
 use Rattle.std.proofs.Math.ListN.{set}
@@ -9,9 +9,9 @@ use Rattle.hc_rational.specs.Words.{Rational}
 use Rattle.hc_term.specs.declared.post.Offer.{Offer}
 use Rattle.hc_term.specs.declared.post.Offer.TheVariants.{Send, Receive}
 use Rattle.hc_term.specs.Together.{is_offer}
-use Rattle.hc_board.specs.declared.offered.Offered.{Offered}
+use Rattle.hc_board.specs.declared.index.Index.{Index}
 use Rattle.hc_board.specs.Bits.{has, is_in}
-use Rattle.hc_board.specs.Offered.{row, is_marked, is_filled, has_both, IsWhole, IsMarked}
+use Rattle.hc_board.specs.Index.{row, is_marked, is_filled, has_both, IsWhole, IsMarked, IsTimed}
 
 -- ---- a choice that is settled
 
@@ -26,12 +26,12 @@ passed false x y = refl
 -- ---- one row
 
 -- the tables with this word on one end of a channel
-abbrev pub with_row : Bool → Offered → ℕ → ℕ → List ℕ → Offered
+abbrev pub with_row : Bool → Index → ℕ → ℕ → List ℕ → Index
 with_row true o at w ready = record o { senders = set o.senders at w; ready = ready }
 with_row false o at w ready = record o { receivers = set o.receivers at w; ready = ready }
 
 -- whether both ends are marked then
-abbrev pub both_with : Bool → Offered → ℕ → ℕ → Bool
+abbrev pub both_with : Bool → Index → ℕ → ℕ → Bool
 both_with true o at w = is_filled w && is_filled (row false o at)
 both_with false o at w = is_filled (row true o at) && is_filled w
 
@@ -43,23 +43,23 @@ is_side false sending = not sending
 abbrev pub is_end : Bool → ℕ → Bool → ℕ → Bool
 is_end side at sending c = is_side side sending && (at == c)
 
-row_same : (side : Bool) (o : Offered) (at w : ℕ) (ready : List ℕ) → IsWhole o → at < most_channels → row side (with_row side o at w ready) at ≡ w
+row_same : (side : Bool) (o : Index) (at w : ℕ) (ready : List ℕ) → IsWhole o → at < most_channels → row side (with_row side o at w ready) at ≡ w
 row_same true o at w ready h low = let n = h.senders in get_or-set_same o.senders at w 0 (omega (arith, n, low))
 row_same false o at w ready h low = let n = h.receivers in get_or-set_same o.receivers at w 0 (omega (arith, n, low))
 
-row_other : (side sending : Bool) (o : Offered) (at c w : ℕ) (ready : List ℕ) → c ≢ at → row sending (with_row side o at w ready) c ≡ row sending o c
+row_other : (side sending : Bool) (o : Index) (at c w : ℕ) (ready : List ℕ) → c ≢ at → row sending (with_row side o at w ready) c ≡ row sending o c
 row_other true true o at c w ready d = get_or-set_other o.senders at c w 0 d
 row_other true false o at c w ready d = refl
 row_other false true o at c w ready d = refl
 row_other false false o at c w ready d = get_or-set_other o.receivers at c w 0 d
 
-both_same : (side : Bool) (o : Offered) (at w : ℕ) (ready : List ℕ) → IsWhole o → at < most_channels →
+both_same : (side : Bool) (o : Index) (at w : ℕ) (ready : List ℕ) → IsWhole o → at < most_channels →
     has_both (with_row side o at w ready) at ≡ both_with side o at w
 both_same true o at w ready h low = ap (λ n. is_filled n && is_filled (row false o at)) (row_same true o at w ready h low)
 both_same false o at w ready h low = ap (λ n. is_filled (row true o at) && is_filled n) (row_same false o at w ready h low)
 
 -- the marks on this channel, of which one end has the new word
-marks_same : (side sending : Bool) (o : Offered) (at w q p : ℕ) (mark : Bool) (ready : List ℕ) → IsWhole o → at < most_channels →
+marks_same : (side sending : Bool) (o : Index) (at w q p : ℕ) (mark : Bool) (ready : List ℕ) → IsWhole o → at < most_channels →
     has w p ≡ (if p == q then mark else has (row side o at) p) →
     is_marked sending (with_row side o at w ready) at p ≡ (if (p == q) && is_side side sending then mark else is_marked sending o at p)
 marks_same true true o at w q p mark ready h low e =
@@ -77,23 +77,27 @@ and_false : (b : Bool) → (b && false) ≡ false
 and_false true = refl
 and_false false = refl
 
-lengths : (side : Bool) (o : Offered) (at w : ℕ) (ready : List ℕ) → IsWhole o →
+lengths : (side : Bool) (o : Index) (at w : ℕ) (ready : List ℕ) → IsWhole o →
     (length (with_row side o at w ready).senders ≡ most_channels) × (length (with_row side o at w ready).receivers ≡ most_channels)
 lengths true o at w ready h = (length-set o.senders at w ∙ h.senders, h.receivers)
 lengths false o at w ready h = (h.senders, length-set o.receivers at w ∙ h.receivers)
 
-bits_same : (side sending : Bool) (o : Offered) (at w : ℕ) (ready : List ℕ) → IsWhole o → at < most_channels → w < 2 ^ 64 →
+bits_same : (side sending : Bool) (o : Index) (at w : ℕ) (ready : List ℕ) → IsWhole o → at < most_channels → w < 2 ^ 64 →
     row sending (with_row side o at w ready) at < 2 ^ 64
 bits_same true true o at w ready h low fits = subst (λ (n : ℕ). n < 2 ^ 64) (sym (row_same true o at w ready h low)) fits
 bits_same true false o at w ready h low fits = h.bits false at
 bits_same false true o at w ready h low fits = h.bits true at
 bits_same false false o at w ready h low fits = subst (λ (n : ℕ). n < 2 ^ 64) (sym (row_same false o at w ready h low)) fits
 
-same_ready : (side : Bool) (o : Offered) (at w : ℕ) (ready : List ℕ) → (with_row side o at w ready).ready ≡ ready
+same_timed : (side : Bool) (o : Index) (at w : ℕ) (ready : List ℕ) → (with_row side o at w ready).timed ≡ o.timed
+same_timed true o at w ready = refl
+same_timed false o at w ready = refl
+
+same_ready : (side : Bool) (o : Index) (at w : ℕ) (ready : List ℕ) → (with_row side o at w ready).ready ≡ ready
 same_ready true o at w ready = refl
 same_ready false o at w ready = refl
 
-module _ (side : Bool) (o : Offered) (at q w : ℕ) (mark : Bool) (ready : List ℕ) (h : IsWhole o) (low : at < most_channels) (fits : w < 2 ^ 64)
+module _ (side : Bool) (o : Index) (at q w : ℕ) (mark : Bool) (ready : List ℕ) (h : IsWhole o) (low : at < most_channels) (fits : w < 2 ^ 64)
     (word : (i : ℕ) → i < 64 → has w i ≡ (if i == q then mark else has (row side o at) i)) (words : length ready ≡ 4)
     (members : (i : ℕ) → i < most_channels → is_in ready i ≡ (if i == at then both_with side o at w else is_in o.ready i)) where
   ready_is : (c : ℕ) → c < most_channels → is_in ready c ≡ has_both (with_row side o at w ready) c
@@ -144,8 +148,10 @@ module _ (side : Bool) (o : Offered) (at q w : ℕ) (mark : Bool) (ready : List 
       bits = bits_are;
       words = ap length ready_field ∙ words;
       ready = λ c within. ap (λ (r : List ℕ). is_in r c) ready_field ∙ ready_is c within;
+      timed = subst (λ (n : ℕ). n < 2 ^ 64) (sym (same_timed side o at w ready)) h.timed;
     };
     marks = marks_are;
+    timed = same_timed side o at w ready;
   }
 
 -- past the last channel nothing is marked
@@ -153,12 +159,13 @@ past : (side sending : Bool) (at c : ℕ) → ¬ (at < most_channels) → c < mo
 past side sending at c n low =
     ap (λ (b : Bool). is_side side sending && b) (ne_eqb at c (λ e. n (subst (λ (k : ℕ). k < most_channels) (sym e) low))) ∙ and_false (is_side side sending)
 
-pub nothing_marked : (side : Bool) (o : Offered) (at q : ℕ) (mark : Bool) → IsWhole o → ¬ (at < most_channels) → IsMarked (is_end side at) q mark o o
+pub nothing_marked : (side : Bool) (o : Index) (at q : ℕ) (mark : Bool) → IsWhole o → ¬ (at < most_channels) → IsMarked (is_end side at) q mark o o
 nothing_marked side o at q mark h n = record {
   whole = h;
   marks = λ sending c p low small.
       sym (ap (λ (b : Bool). if (p == q) && b then mark else is_marked sending o c p) (past side sending at c n low)
       ∙ passed (p == q) mark (is_marked sending o c p));
+  timed = refl;
 }
 
 -- ---- one offer
@@ -175,20 +182,21 @@ receives_there : (at : ℕ) (sending : Bool) (c : ℕ) → is_end false at sendi
 receives_there at true c = refl
 receives_there at false c = refl
 
-marked_as : (f g : Bool → ℕ → Bool) (q : ℕ) (mark : Bool) (old new : Offered) → ((sending : Bool) (c : ℕ) → f sending c ≡ g sending c) →
+marked_as : (f g : Bool → ℕ → Bool) (q : ℕ) (mark : Bool) (old new : Index) → ((sending : Bool) (c : ℕ) → f sending c ≡ g sending c) →
     IsMarked f q mark old new → IsMarked g q mark old new
 marked_as f g q mark old new same m = record {
   whole = m.whole;
   marks = λ sending c p low small.
       m.marks sending c p low small ∙ ap (λ (b : Bool). if (p == q) && b then mark else is_marked sending old c p) (same sending c);
+  timed = m.timed;
 }
 
-pub send_marked : (at : ℕ) (v slope : Rational) (q : ℕ) (mark : Bool) (old new : Offered) → IsMarked (is_end true at) q mark old new →
+pub send_marked : (at : ℕ) (v slope : Rational) (q : ℕ) (mark : Bool) (old new : Index) → IsMarked (is_end true at) q mark old new →
     IsMarked (λ sending c. is_offer sending c (Send at v slope)) q mark old new
 send_marked at v slope q mark old new m =
     marked_as (is_end true at) (λ sending c. is_offer sending c (Send at v slope)) q mark old new (sends_there at v slope) m
 
-pub receive_marked : (at q : ℕ) (mark : Bool) (old new : Offered) → IsMarked (is_end false at) q mark old new →
+pub receive_marked : (at q : ℕ) (mark : Bool) (old new : Index) → IsMarked (is_end false at) q mark old new →
     IsMarked (λ sending c. is_offer sending c (Receive at)) q mark old new
 receive_marked at q mark old new m =
     marked_as (is_end false at) (λ sending c. is_offer sending c (Receive at)) q mark old new (receives_there at) m
@@ -199,11 +207,12 @@ abbrev pub any_offer : List Offer → Bool → ℕ → Bool
 any_offer os sending c = list_any (is_offer sending c) os
 
 -- what is to be marked in all is what is to be marked behind the marks so far
-pub record IsMarkedFor (all rest : List Offer) (q : ℕ) (mark : Bool) (first so_far : Offered) : Type 0 where
+pub record IsMarkedFor (all rest : List Offer) (q : ℕ) (mark : Bool) (first so_far : Index) : Type 0 where
   pub whole : IsWhole so_far
   pub marks : (sending : Bool) (c p : ℕ) → c < most_channels → p < most_processes →
       (if (p == q) && any_offer all sending c then mark else is_marked sending first c p)
       ≡ (if (p == q) && any_offer rest sending c then mark else is_marked sending so_far c p)
+  pub timed : so_far.timed ≡ first.timed
 
 joined : {A : Type 0} (i a b : Bool) (x y : A) → (if i && (a || b) then x else y) ≡ (if i && b then x else (if i && a then x else y))
 joined false a b x y = refl
@@ -211,10 +220,10 @@ joined true true true x y = refl
 joined true true false x y = refl
 joined true false b x y = refl
 
-pub none_marked : (os : List Offer) (q : ℕ) (mark : Bool) (o : Offered) → IsWhole o → IsMarkedFor os os q mark o o
-none_marked os q mark o h = record { whole = h; marks = λ sending c p low small. refl }
+pub none_marked : (os : List Offer) (q : ℕ) (mark : Bool) (o : Index) → IsWhole o → IsMarkedFor os os q mark o o
+none_marked os q mark o h = record { whole = h; marks = λ sending c p low small. refl; timed = refl }
 
-pub next_marked : (all rest : List Offer) (offer : Offer) (q : ℕ) (mark : Bool) (first so_far new : Offered) →
+pub next_marked : (all rest : List Offer) (offer : Offer) (q : ℕ) (mark : Bool) (first so_far new : Index) →
     IsMarkedFor all (offer ∷ rest) q mark first so_far → IsMarked (λ sending c. is_offer sending c offer) q mark so_far new →
     IsMarkedFor all rest q mark first new
 next_marked all rest offer q mark first so_far new f m = record {
@@ -223,11 +232,34 @@ next_marked all rest offer q mark first so_far new f m = record {
       f.marks sending c p low small
       ∙ joined (p == q) (is_offer sending c offer) (any_offer rest sending c) mark (is_marked sending so_far c p)
       ∙ ap (λ (b : Bool). if (p == q) && any_offer rest sending c then mark else b) (sym (m.marks sending c p low small));
+  timed = m.timed ∙ f.timed;
 }
 
-pub all_marked : (os : List Offer) (q : ℕ) (mark : Bool) (first new : Offered) → IsMarkedFor os [] q mark first new →
+pub all_marked : (os : List Offer) (q : ℕ) (mark : Bool) (first new : Index) → IsMarkedFor os [] q mark first new →
     IsMarked (any_offer os) q mark first new
 all_marked os q mark first new f = record {
   whole = f.whole;
   marks = λ sending c p low small. sym (f.marks sending c p low small ∙ passed (p == q) mark (is_marked sending new c p));
+  timed = f.timed;
+}
+
+-- ---- who waits for time
+
+same_rows : (o : Index) (w : ℕ) (sending : Bool) (c : ℕ) → row sending (record o { timed = w }) c ≡ row sending o c
+same_rows o w true c = refl
+same_rows o w false c = refl
+
+pub timed_marked : (o : Index) (q w : ℕ) (mark : Bool) → IsWhole o → w < 2 ^ 64 →
+    ((p : ℕ) → p < 64 → has w p ≡ (if p == q then mark else has o.timed p)) → IsTimed q mark o (record o { timed = w })
+timed_marked o q w mark h fits told = record {
+  whole = record {
+    senders = h.senders;
+    receivers = h.receivers;
+    bits = λ sending c. subst (λ (n : ℕ). n < 2 ^ 64) (sym (same_rows o w sending c)) (h.bits sending c);
+    words = h.words;
+    ready = h.ready;
+    timed = fits;
+  };
+  rows = same_rows o w;
+  timed = told;
 }

@@ -6,7 +6,7 @@ use Rattle.hc_term.specs.declared.post.Post.{Post}
 use Rattle.hc_term.specs.declared.post.Offer.{Offer}
 use Rattle.hc_term.specs.Posts.{first_of, offer_sent_on, offer_receives_on, sent_on, receives_on, numbered, sender, receiver, meeting_by, meeting_on, meeting_from}
 use Rattle.hc_term.specs.Together.{is_offer}
-use Rattle.hc_board.specs.Offered.{is_offered}
+use Rattle.hc_board.specs.Index.{is_offered}
 
 first-some : {A : Type 0} (a b : Option A) → is_some (first_of a b) ≡ (is_some a || is_some b)
 first-some None b = refl

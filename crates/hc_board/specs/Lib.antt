@@ -2,4 +2,4 @@ pub mod Bits
 pub mod Seen
 pub mod Answers
 pub mod MeetingBoard
-pub mod Offered
+pub mod Index

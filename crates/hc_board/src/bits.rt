@@ -15,6 +15,14 @@ pub(crate) fn with_bit(word: u64, bit: u32, is_set: bool) -> u64
     }
 }
 
+/// Whether this bit, below 64, is set.
+pub(crate) fn has_bit(word: u64, bit: u32) -> bool
+    requires { bit < 64 }
+    ensures { result ≡ has word bit }
+{
+    (word >> bit) & 1 == 1
+}
+
 /// The least bit that is set.
 pub(crate) fn least_bit(word: u64) -> Option<u32>
     ensures least { IfSome result (λ k. IsLeast 64 (has word) k) }

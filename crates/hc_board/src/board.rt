@@ -9,36 +9,36 @@ ghost use Rattle.hc_board.specs.Seen.{KeepsLimits};
 ghost use Rattle.hc_board.specs.Answers.{answer_of, after_delay, after_meeting};
 ghost use Rattle.hc_board.specs.Bits.{is_in};
 ghost use Rattle.hc_board.specs.MeetingBoard.{IsReady};
-ghost use Rattle.hc_board.specs.Offered.{IsTableOf};
+ghost use Rattle.hc_board.specs.Index.{is_waiting, IsIndexOf};
 
 use crate::delayed::Delayed;
 use crate::delays::{move_all, passing};
+use crate::index::Index;
 use crate::meetings::least_meeting;
-use crate::offered::Offered;
 use hc_frac::Frac;
 use hc_term::{Meeting, Phase, Post};
 use std::alloc::{AllocError, Global};
 use std::marker::Model;
 
 /// What each process shows to the others, by the numbers of the processes: at most 64 posts, over at most 256 channels.
-/// Beside them stand tables of what they offer, so that a ready channel is found without looking through them. Only `open`
-/// takes memory.
+/// Beside them stands an index, so that ready channels and the processes that wait for time are found without looking through
+/// them. Only `open` takes memory.
 #[derive(Drop)]
 pub struct Board {
     posts: Vec<Post>,
     channels: u32,
-    offered: Offered,
+    index: Index,
 }
 
 impl Model for Board {
     ghost use Rattle.hc_board.specs.Seen.{Seen};
-    ghost use Rattle.hc_board.specs.Offered.{IsKept};
+    ghost use Rattle.hc_board.specs.Index.{IsKept};
 
     ghost Value = { Seen };
 
     ghost view = { λ b. record { posts = b.posts.items; channels = b.channels } };
 
-    ghost invariant = { λ b. IsKept b.posts.items b.channels b.offered };
+    ghost invariant = { λ b. IsKept b.posts.items b.channels b.index };
 }
 
 impl Board {
@@ -52,7 +52,7 @@ impl Board {
         Ok(Board {
             posts,
             channels,
-            offered: Offered::nothing(),
+            index: Index::nothing(),
         })
     }
 
@@ -68,7 +68,7 @@ impl Board {
     pub fn ready(&self) -> &[u64; 4]
         ensures { (c : ℕ) → c < most_channels → IsTrue (is_in result.now c) ↔ IsReady c self.now.posts }
     {
-        &self.offered.ready
+        &self.index.ready
     }
 
     /// Replaces what a process shows.
@@ -76,7 +76,7 @@ impl Board {
         requires { process < length self.old.posts }
         ensures { self.new ≡ record self.old { posts = slice_set self.old.posts process post.now } }
     {
-        replace(self.posts.as_mut_slice(), &mut self.offered, process, post);
+        replace(self.posts.as_mut_slice(), &mut self.index, process, post);
     }
 
     /// Lets the two meet that offer both ends of a channel, of the ready channel with the least number: both are going
@@ -85,9 +85,9 @@ impl Board {
         ensures met { result ≡ first_meeting self.old.channels self.old.posts }
         ensures after { self.new ≡ record self.old { posts = after_meeting result self.old.posts } }
     {
-        let meeting = least_meeting(self.posts.as_slice(), &self.offered, self.channels);
+        let meeting = least_meeting(self.posts.as_slice(), &self.index, self.channels);
         if let Some(meeting) = &meeting {
-            meet(self.posts.as_mut_slice(), &mut self.offered, meeting);
+            meet(self.posts.as_mut_slice(), &mut self.index, meeting);
         }
         meeting
     }
@@ -98,9 +98,9 @@ impl Board {
         ensures answer { result ≡ answer_of (passing_on clock horizon self.old.posts) }
         ensures after { self.new ≡ record self.old { posts = after_delay result self.old.posts } }
     {
-        let delayed = passing(self.posts.as_slice(), clock, horizon);
+        let delayed = passing(self.posts.as_slice(), &self.index, clock, horizon);
         if let Delayed::Took(by) = &delayed {
-            move_all(self.posts.as_mut_slice(), &mut self.offered, *by);
+            move_all(self.posts.as_mut_slice(), &mut self.index, *by);
         }
         delayed
     }
@@ -117,42 +117,51 @@ fn going_posts(alloc: Global, count: u32) -> Result<Vec<Post>, AllocError>
     Ok(posts)
 }
 
+/// Whether a process has a bound or evolves.
+fn waits_for_time(post: &Post) -> bool
+    ensures { result ≡ is_waiting post.now }
+{
+    post.bound.is_some() | !post.moving.as_slice().is_empty()
+}
+
 /// Makes the post of a process equal to this one.
-fn replace(posts: &mut [Post], offered: &mut Offered, process: u32, post: &Post)
+fn replace(posts: &mut [Post], index: &mut Index, process: u32, post: &Post)
     requires there { process < length posts.old }
     requires within { length posts.old ≤ most_processes }
-    requires tables { IsTableOf offered.old posts.old }
+    requires index { IsIndexOf index.old posts.old }
     ensures posts { posts.new ≡ slice_set posts.old process post.now }
-    ensures tables { IsTableOf offered.new posts.new }
+    ensures index { IsIndexOf index.new posts.new }
 {
     let shown = &mut posts[process as usize];
-    offered.mark_all(shown.offers.as_slice(), process, false);
-    offered.mark_all(post.offers.as_slice(), process, true);
+    index.mark_all(shown.offers.as_slice(), process, false);
+    index.mark_all(post.offers.as_slice(), process, true);
+    index.mark_timed(process, waits_for_time(post));
     post.copy_into(shown);
 }
 
 /// Shows that a process is going.
-fn set_going(posts: &mut [Post], offered: &mut Offered, process: u32)
+fn set_going(posts: &mut [Post], index: &mut Index, process: u32)
     requires there { process < length posts.old }
     requires within { length posts.old ≤ most_processes }
-    requires tables { IsTableOf offered.old posts.old }
+    requires index { IsIndexOf index.old posts.old }
     ensures posts { posts.new ≡ slice_set posts.old process going_post }
-    ensures tables { IsTableOf offered.new posts.new }
+    ensures index { IsIndexOf index.new posts.new }
 {
     let post = &mut posts[process as usize];
-    offered.mark_all(post.offers.as_slice(), process, false);
+    index.mark_all(post.offers.as_slice(), process, false);
+    index.mark_timed(process, false);
     post.show(Phase::Going);
 }
 
 /// Shows that the two that met are going.
-fn meet(posts: &mut [Post], offered: &mut Offered, meeting: &Meeting)
+fn meet(posts: &mut [Post], index: &mut Index, meeting: &Meeting)
     requires sender { meeting.now.sender < length posts.old }
     requires receiver { meeting.now.receiver < length posts.old }
     requires within { length posts.old ≤ most_processes }
-    requires tables { IsTableOf offered.old posts.old }
+    requires index { IsIndexOf index.old posts.old }
     ensures posts { posts.new ≡ fired meeting.now posts.old }
-    ensures tables { IsTableOf offered.new posts.new }
+    ensures index { IsIndexOf index.new posts.new }
 {
-    set_going(posts, offered, meeting.sender);
-    set_going(posts, offered, meeting.receiver);
+    set_going(posts, index, meeting.sender);
+    set_going(posts, index, meeting.receiver);
 }

@@ -5,9 +5,9 @@ mod bits;
 mod board;
 mod delayed;
 mod delays;
+mod index;
 mod laws;
 mod meetings;
-mod offered;
 #[cfg(test)]
 mod tests;
 

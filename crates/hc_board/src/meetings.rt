@@ -3,10 +3,10 @@
 ghost use Rattle.std.specs.Prelude.{◌≡◌, ◌<◌, ◌≤◌, length};
 ghost use Rattle.hc_limits.specs.Limits.{most_processes, most_channels};
 ghost use Rattle.hc_term.specs.Posts.{sent_on, meeting_on, first_meeting};
-ghost use Rattle.hc_board.specs.Offered.{IsTableOf};
+ghost use Rattle.hc_board.specs.Index.{IsIndexOf};
 
 use crate::bits::{least_bit, least_member};
-use crate::offered::Offered;
+use crate::index::Index;
 use hc_frac::Frac;
 use hc_term::{Meeting, Offer, Post};
 
@@ -30,16 +30,16 @@ fn sent_value(offers: &[Offer], channel: u32) -> Option<Frac>
 }
 
 /// The meeting on the channel, where both its ends are offered.
-fn meeting_at(posts: &[Post], offered: &Offered, channel: u32) -> Option<Meeting>
+fn meeting_at(posts: &[Post], index: &Index, channel: u32) -> Option<Meeting>
     requires processes { length posts.now ≤ most_processes }
     requires channel { channel < most_channels }
-    requires offered { IsTableOf offered.now posts.now }
+    requires index { IsIndexOf index.now posts.now }
     ensures { result ≡ meeting_on channel posts.now }
 {
-    let Some(sender) = least_bit(offered.senders[channel as usize]) else {
+    let Some(sender) = least_bit(index.senders[channel as usize]) else {
         return None;
     };
-    let Some(receiver) = least_bit(offered.receivers[channel as usize]) else {
+    let Some(receiver) = least_bit(index.receivers[channel as usize]) else {
         return None;
     };
     let Some(value) = sent_value(posts[sender as usize].offers.as_slice(), channel) else {
@@ -54,17 +54,17 @@ fn meeting_at(posts: &[Post], offered: &Offered, channel: u32) -> Option<Meeting
 }
 
 /// The meeting on the ready channel of least number, of so many channels.
-pub(crate) fn least_meeting(posts: &[Post], offered: &Offered, channels: u32) -> Option<Meeting>
+pub(crate) fn least_meeting(posts: &[Post], index: &Index, channels: u32) -> Option<Meeting>
     requires processes { length posts.now ≤ most_processes }
     requires channels { channels ≤ most_channels }
-    requires offered { IsTableOf offered.now posts.now }
+    requires index { IsIndexOf index.now posts.now }
     ensures { result ≡ first_meeting channels posts.now }
 {
-    let Some(channel) = least_member(&offered.ready) else {
+    let Some(channel) = least_member(&index.ready) else {
         return None;
     };
     if channel >= channels {
         return None;
     }
-    meeting_at(posts, offered, channel)
+    meeting_at(posts, index, channel)
 }

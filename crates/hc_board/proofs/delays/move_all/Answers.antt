@@ -27,11 +27,11 @@ loop-at-preserved c =
           c.move_post.ensures.posts
           ∙ (ap₂ (λ qs q. set qs c.loop-at.at q) c.loop-at.invariant.moved (ap f (here c.args.by c.loop-at.at ps c.loop-at.posts c.loop-at.invariant.moved))
           ∙ (set-front f c.loop-at.at ps going_post c.loop-at-test.true ∙ ap (λ n. front f n ps) (sym (add-one c.loop-at.at))));
-      tables = c.move_post.ensures.tables;
+      index = c.move_post.ensures.index;
     }
 
 pub returns : goal.returns
 returns c = record {
   posts = c.loop-at.invariant.moved ∙ front-all (moved_post c.args.by) c.loop-at.at c.args.posts.now c.loop-at-test.false;
-  tables = c.loop-at.invariant.tables;
+  index = c.loop-at.invariant.index;
 }

@@ -1,7 +1,7 @@
 use Rattle.std.proofs.Common.{sym, ap, ◌∙◌}
 use Rattle.hc_term.specs.Process.{is_due}
 use Rattle.hc_term.specs.Moved.{less_by}
-use Rattle.hc_board.proofs.MovedTables.{runs_out_is}
+use Rattle.hc_board.proofs.MovedIndex.{runs_out_is}
 use Rattle.hc_board.proofs.delays.runs_out.Goals as goal
 
 pub returns-in-Some : goal.returns-in-Some

@@ -1,5 +1,5 @@
-use Rattle.hc_board.proofs.Tables.{nothing_made, nothing_marked_in}
-use Rattle.hc_board.proofs.offered.Offered.nothing.Goals as goal
+use Rattle.hc_board.proofs.IndexOf.{nothing_made, nothing_marked_in}
+use Rattle.hc_board.proofs.index.Index.nothing.Goals as goal
 
 pub returns-clause-whole : goal.returns-clause-whole
 returns-clause-whole c = nothing_made _ _ _ c.no_processes.ensures c.no_processes-2.ensures c.no_channels.ensures

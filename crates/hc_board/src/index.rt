@@ -1,22 +1,26 @@
-//! Which processes offer what on which channel, and which channels are ready, as sets of bits.
+//! What is found on a board without looking through its posts.
 
-ghost use Rattle.std.specs.Prelude.{◌≡◌, ◌<◌, ◌&&◌, ◌==◌, ℕ, Bool, false, not, replicate};
+ghost use Rattle.std.specs.Prelude.{◌≡◌, ◌<◌, ◌≤◌, List, length, ◌&&◌, ◌==◌, ℕ, Bool, false, not, replicate};
 ghost use Rattle.std.specs.List.{list_any};
 ghost use Rattle.hc_limits.specs.Limits.{most_processes, most_channels};
+ghost use Rattle.hc_term.specs.declared.post.Post.{Post as Shown};
+ghost use Rattle.hc_term.specs.Posts.{is_timed};
 ghost use Rattle.hc_term.specs.Together.{is_offer};
-ghost use Rattle.hc_board.specs.Offered.{IsWhole, IsMarked, is_marked};
+ghost use Rattle.hc_board.specs.Bits.{has};
+ghost use Rattle.hc_board.specs.Index.{IsWhole, IsMarked, IsTimed, IsIndexOf, is_marked};
 
-use crate::bits::{set_member, with_bit};
+use crate::bits::{has_bit, set_member, with_bit};
 use hc_limits::MOST_CHANNELS;
 use hc_term::Offer;
 
-/// For each channel the processes that offer to send and those that offer to receive on it, and the channels with both.
-/// Channels past the limit have no place.
+/// For each channel the processes that offer to send and those that offer to receive on it, the channels with both, and the
+/// processes that have a bound or evolve, all as bits of words. Channels past the limit have no place.
 #[derive(Drop)]
-pub(crate) struct Offered {
+pub(crate) struct Index {
     pub(crate) senders: [u64; MOST_CHANNELS],
     pub(crate) receivers: [u64; MOST_CHANNELS],
     pub(crate) ready: [u64; 4],
+    pub(crate) timed: u64,
 }
 
 /// No process on any channel.
@@ -33,16 +37,18 @@ fn no_channels() -> [u64; 4]
     [0; 4]
 }
 
-impl Offered {
-    /// Nothing is offered.
-    pub(crate) fn nothing() -> Offered
+impl Index {
+    /// Nothing is offered, and no process waits for time.
+    pub(crate) fn nothing() -> Index
         ensures whole { IsWhole result }
         ensures none { (sending : Bool) (c p : ℕ) → c < most_channels → is_marked sending result c p ≡ false }
+        ensures untimed { (p : ℕ) → has result.timed p ≡ false }
     {
-        Offered {
+        Index {
             senders: no_processes(),
             receivers: no_processes(),
             ready: no_channels(),
+            timed: 0,
         }
     }
 
@@ -97,5 +103,29 @@ impl Offered {
         for offer in offers {
             self.mark(offer, process, is_offered);
         }
+    }
+
+    /// Marks whether the process has a bound or evolves.
+    pub(crate) fn mark_timed(&mut self, process: u32, is_timed: bool)
+        requires whole { IsWhole self.old }
+        requires process { process < most_processes }
+        ensures { IsTimed process is_timed self.old self.new }
+    {
+        self.timed = with_bit(self.timed, process, is_timed);
+    }
+
+    /// Whether the process has a bound or evolves.
+    pub(crate) fn is_waiting(&self, process: u32) -> bool
+        requires { process < most_processes }
+        ensures { result ≡ has self.now.timed process }
+    {
+        has_bit(self.timed, process)
+    }
+
+    /// Whether some process has a bound or evolves.
+    pub(crate) fn is_some_waiting(&self) -> bool
+        ensures { (ps : List Shown) → IsIndexOf self.now ps → length ps ≤ most_processes → result ≡ is_timed ps }
+    {
+        self.timed != 0
     }
 }

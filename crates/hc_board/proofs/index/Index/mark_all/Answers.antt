@@ -2,7 +2,7 @@ use Rattle.std.proofs.Common.{◌+◌, List, ◌∷◌, drop, sym, ap, subst, �
 use Rattle.std.proofs.lemmas.List.{drop_more}
 use Rattle.hc_term.specs.declared.post.Offer.{Offer}
 use Rattle.hc_board.proofs.Marking.{IsMarkedFor, next_marked}
-use Rattle.hc_board.proofs.offered.Offered.mark_all.Goals as goal
+use Rattle.hc_board.proofs.index.Index.mark_all.Goals as goal
 
 pub loop-offer-preserved : goal.loop-offer-preserved
 loop-offer-preserved c =

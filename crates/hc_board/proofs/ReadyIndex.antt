@@ -1,4 +1,4 @@
--- What the tables tell of meetings.
+-- What the index tells of meetings.
 use Rattle.std.proofs.Common.{◌≡◌, ◌↔◌, ◌<◌, ◌≤◌, ◌+◌, ◌-◌, ℕ, zero, suc, Bool, true, false, ◌&&◌, List, length, Option, Some, None, is_some, IsTrue, refl, sym, ap, ap₂, ◌∙◌, inl, inr, arith}
 use Rattle.std.proofs.Math.ListN.{get_or}
 use Rattle.std.proofs.lemmas.Bool.{cases_Bool}
@@ -9,13 +9,13 @@ use Rattle.hc_term.specs.declared.post.Offer.{Offer}
 use Rattle.hc_term.specs.declared.post.Post.{Post}
 use Rattle.hc_term.specs.Offers.{going_post}
 use Rattle.hc_term.specs.Posts.{sent_on, meeting_on, meeting_from, first_meeting}
-use Rattle.hc_board.specs.declared.offered.Offered.{Offered}
+use Rattle.hc_board.specs.declared.index.Index.{Index}
 use Rattle.hc_board.specs.Bits.{has, is_in, IsLeast}
 use Rattle.hc_board.specs.MeetingBoard.{shown, Sends, Receives, IsReady}
-use Rattle.hc_board.specs.Offered.{is_offered, row, is_filled, IsTableOf}
+use Rattle.hc_board.specs.Index.{is_offered, row, is_filled, IsIndexOf}
 use Rattle.hc_board.proofs.ReadyChannels.{is_none, sends, receives, meeting-offered, meeting_from-next, meeting_from-found}
 use Rattle.hc_board.proofs.BoardLaw.{on_found, on_ready, not_ready, is_none_ready}
-use Rattle.hc_board.proofs.Tables.{offers_there, least_there, none_before, row_offered}
+use Rattle.hc_board.proofs.IndexOf.{offers_there, least_there, none_before, row_offered}
 
 -- what a post that is there sends
 pub sent_shown : (c : ℕ) (ps : List Post) (p : ℕ) (d : Post) (os : List Offer) (r : Option Rational) → p < length ps →
@@ -23,7 +23,7 @@ pub sent_shown : (c : ℕ) (ps : List Post) (p : ℕ) (d : Post) (os : List Offe
 sent_shown c ps p d os r there e told =
     ap (λ (q : Post). sent_on c q.offers) (get_or_default ps p going_post d there) ∙ ap (sent_on c) (sym e) ∙ sym told
 
-module _ (o : Offered) (ps : List Post) (t : IsTableOf o ps) (within : length ps ≤ most_processes) where
+module _ (o : Index) (ps : List Post) (t : IsIndexOf o ps) (within : length ps ≤ most_processes) where
   -- ---- one channel
 
   module _ (c : ℕ) (low : c < most_channels) where

@@ -1,6 +1,6 @@
 use Rattle.std.proofs.Common.{true, ◌∙◌, arith, rules}
 use Rattle.hc_board.proofs.Marking.{row_marked}
-use Rattle.hc_board.proofs.offered.Offered.mark_sender.Goals as goal
+use Rattle.hc_board.proofs.index.Index.mark_sender.Goals as goal
 
 pub returns-then-at-lt-MOST_CHANNELS : goal.returns-then-at-lt-MOST_CHANNELS
 returns-then-at-lt-MOST_CHANNELS c =
