@@ -1,5 +1,5 @@
 -- What the functions on posts answer is what the board is to do: the two that meet, what they leave, and how time passes.
-use Rattle.std.proofs.Common.{◌≡◌, ◌↔◌, ◌<◌, ◌≤◌, ℕ, zero, suc, ◌+◌, Bool, true, false, List, length, Option, Some, None, ◌⊎◌, inl, inr, refl, sym, ap, subst, ◌∙◌, if◌then◌else◌, arith}
+use Rattle.std.proofs.Common.{◌≡◌, ◌↔◌, ◌<◌, ◌≤◌, ℕ, zero, suc, ◌+◌, Bool, true, false, List, length, Option, Some, None, is_some, ◌⊎◌, inl, inr, refl, sym, ap, subst, ◌∙◌, if◌then◌else◌, arith}
 use Rattle.std.proofs.Math.ListN.{set}
 use Rattle.std.proofs.lemmas.Bool.{cases_lt}
 use Rattle.std.proofs.lemmas.List.{length-set, get_or-set_same, get_or-set_other, get_or-map}
@@ -67,7 +67,7 @@ on_sound c ps m e =
       receives = receives_there c ps m.receiver j.received;
     }
 
-on_found : (c : ℕ) (ps : List Post) (p r : ℕ) (v : Rational) → Sends c ps p v → Receives c ps r →
+pub on_found : (c : ℕ) (ps : List Post) (p r : ℕ) (v : Rational) → Sends c ps p v → Receives c ps r →
     meeting_on c ps ≡ Some (record { channel = c; sender = p; receiver = r; value = v })
 on_found c ps p r v s k =
     ap (λ (so : Option (ℕ × Rational)). meeting_by c so (receiver c 0 ps)) (sender_found c ps p v s)
@@ -90,6 +90,13 @@ none_by c ps None e n = refl
 none_by c ps (Some m) e n =
     let on = on_sound c ps m e in
     absurd (n (record { sender = m.sender; value = m.value; sends = on.sends; receiver = m.receiver; receives = on.receives }))
+
+-- where they meet the channel is ready
+pub on_ready : (c : ℕ) (ps : List Post) (o : Option Meeting) → meeting_on c ps ≡ o → is_some o ≡ true → IsReady c ps
+on_ready c ps None e h = cc
+on_ready c ps (Some m) e h =
+    let on = on_sound c ps m e in
+    record { sender = m.sender; value = m.value; sends = on.sends; receiver = m.receiver; receives = on.receives }
 
 pub none_on : (c : ℕ) (ps : List Post) → ¬ IsReady c ps → meeting_on c ps ≡ None
 none_on c ps n = none_by c ps (meeting_on c ps) refl n
@@ -199,8 +206,8 @@ is-meeting channels ps m i =
 none_is : (channels : ℕ) (ps : List Post) → first_meeting channels ps ≡ None → (c : ℕ) → c < channels → ¬ IsReady c ps
 none_is channels ps e c low = not_ready c ps (all_none 0 channels ps e c (omega arith) (omega (arith, low)))
 
-is_none : (channels : ℕ) (ps : List Post) → ((c : ℕ) → c < channels → ¬ IsReady c ps) → first_meeting channels ps ≡ None
-is_none channels ps h = none_from 0 channels ps (λ k from low. none_on k ps (h k (omega (arith, low))))
+pub is_none_ready : (channels : ℕ) (ps : List Post) → ((c : ℕ) → c < channels → ¬ IsReady c ps) → first_meeting channels ps ≡ None
+is_none_ready channels ps h = none_from 0 channels ps (λ k from low. none_on k ps (h k (omega (arith, low))))
 
 -- ---- what a meeting leaves
 
@@ -285,7 +292,7 @@ module _ (clock horizon : Rational) (ps : List Post) where
 pub each_is_meeting_board : EachIsMeetingBoard
 each_is_meeting_board channels ps = record {
   meets = λ m. (meeting-is channels ps m, is-meeting channels ps m);
-  none = (none_is channels ps, is_none channels ps);
+  none = (none_is channels ps, is_none_ready channels ps);
   sender = sender_goes channels ps;
   receiver = λ m i. receiver_goes ps m i.receives.there;
   others = λ m p. other_stays ps m p;

@@ -1,6 +1,10 @@
-pub mod Marked
 pub mod ReadyChannels
 pub mod Ends
 pub mod BoardLaw
 pub mod Found
 pub mod DelayLength
+pub mod Bitwise
+pub mod Marking
+pub mod IndexOf
+pub mod MovedIndex
+pub mod ReadyIndex

@@ -6,7 +6,7 @@ use Rattle.hc_term.specs.declared.post.Post.{Post}
 use Rattle.hc_term.specs.declared.post.Offer.{Offer}
 use Rattle.hc_term.specs.Posts.{first_of, offer_sent_on, offer_receives_on, sent_on, receives_on, numbered, sender, receiver, meeting_by, meeting_on, meeting_from}
 use Rattle.hc_term.specs.Together.{is_offer}
-use Rattle.hc_board.specs.Marks.{is_offered}
+use Rattle.hc_board.specs.Index.{is_offered}
 
 first-some : {A : Type 0} (a b : Option A) → is_some (first_of a b) ≡ (is_some a || is_some b)
 first-some None b = refl
@@ -20,12 +20,12 @@ chosen-some : {A : Type 0} (b : Bool) (a : A) (o : Option A) → is_some (if b t
 chosen-some true a o = refl
 chosen-some false a o = refl
 
-sends : (c : ℕ) (os : List Offer) → is_some (sent_on c os) ≡ list_any (is_offer true c) os
+pub sends : (c : ℕ) (os : List Offer) → is_some (sent_on c os) ≡ list_any (is_offer true c) os
 sends c [] = refl
 sends c (o ∷ os) =
     first-some (offer_sent_on c o) (sent_on c os) ∙ ap (λ b. is_some (offer_sent_on c o) || b) (sends c os)
 
-receives : (c : ℕ) (os : List Offer) → receives_on c os ≡ list_any (is_offer false c) os
+pub receives : (c : ℕ) (os : List Offer) → receives_on c os ≡ list_any (is_offer false c) os
 receives c [] = refl
 receives c (o ∷ os) = ap (λ b. offer_receives_on c o || b) (receives c os)
 
@@ -52,7 +52,7 @@ meeting-offered c ps =
 
 -- ---- the search along the channels
 
-is_none : {A : Type 0} (o : Option A) → is_some o ≡ false → o ≡ None
+pub is_none : {A : Type 0} (o : Option A) → is_some o ≡ false → o ≡ None
 is_none None h = refl
 is_none (Some a) h = cc
 

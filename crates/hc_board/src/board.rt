@@ -1,15 +1,19 @@
 //! The board: one post for each process, and what happens between them.
 
-ghost use Rattle.std.specs.Prelude.{◌≡◌, ◌<◌, ◌≤◌, IfOk, length, replicate, slice_set};
+ghost use Rattle.std.specs.Prelude.{◌≡◌, ◌<◌, ◌≤◌, ◌↔◌, ℕ, IfOk, IsTrue, length, replicate, slice_set};
 ghost use Rattle.hc_limits.specs.Limits.{most_processes, most_channels};
 ghost use Rattle.hc_term.specs.Offers.{going_post};
 ghost use Rattle.hc_term.specs.Posts.{first_meeting, passing_on};
 ghost use Rattle.hc_term.specs.Moved.{fired};
 ghost use Rattle.hc_board.specs.Seen.{KeepsLimits};
 ghost use Rattle.hc_board.specs.Answers.{answer_of, after_delay, after_meeting};
+ghost use Rattle.hc_board.specs.Bits.{is_in};
+ghost use Rattle.hc_board.specs.MeetingBoard.{IsReady};
+ghost use Rattle.hc_board.specs.Index.{is_waiting, IsIndexOf};
 
 use crate::delayed::Delayed;
 use crate::delays::{move_all, passing};
+use crate::index::Index;
 use crate::meetings::least_meeting;
 use hc_frac::Frac;
 use hc_term::{Meeting, Phase, Post};
@@ -17,21 +21,24 @@ use std::alloc::{AllocError, Global};
 use std::marker::Model;
 
 /// What each process shows to the others, by the numbers of the processes: at most 64 posts, over at most 256 channels.
-/// Only `open` takes memory.
+/// Beside them stands an index, so that ready channels and the processes that wait for time are found without looking through
+/// them. Only `open` takes memory.
 #[derive(Drop)]
 pub struct Board {
     posts: Vec<Post>,
     channels: u32,
+    index: Index,
 }
 
 impl Model for Board {
-    ghost use Rattle.hc_board.specs.Seen.{Seen, KeepsLimits};
+    ghost use Rattle.hc_board.specs.Seen.{Seen};
+    ghost use Rattle.hc_board.specs.Index.{IsKept};
 
     ghost Value = { Seen };
 
     ghost view = { λ b. record { posts = b.posts.items; channels = b.channels } };
 
-    ghost invariant = { λ b. KeepsLimits b.posts.items b.channels };
+    ghost invariant = { λ b. IsKept b.posts.items b.channels b.index };
 }
 
 impl Board {
@@ -42,7 +49,11 @@ impl Board {
         ensures { IfOk result (λ b. b ≡ record { posts = replicate processes going_post; channels = channels }) }
     {
         let posts = going_posts(alloc, processes)?;
-        Ok(Board { posts, channels })
+        Ok(Board {
+            posts,
+            channels,
+            index: Index::nothing(),
+        })
     }
 
     /// The posts, by the numbers of the processes.
@@ -53,12 +64,19 @@ impl Board {
         self.posts.as_slice()
     }
 
+    /// The ready channels, as bits: channel c is bit c mod 64 of word c / 64.
+    pub fn ready(&self) -> &[u64; 4]
+        ensures { (c : ℕ) → c < most_channels → IsTrue (is_in result.now c) ↔ IsReady c self.now.posts }
+    {
+        &self.index.ready
+    }
+
     /// Replaces what a process shows.
     pub fn post(&mut self, process: u32, post: &Post)
         requires { process < length self.old.posts }
         ensures { self.new ≡ record self.old { posts = slice_set self.old.posts process post.now } }
     {
-        replace(self.posts.as_mut_slice(), process as usize, post);
+        replace(self.posts.as_mut_slice(), &mut self.index, process, post);
     }
 
     /// Lets the two meet that offer both ends of a channel, of the ready channel with the least number: both are going
@@ -67,9 +85,9 @@ impl Board {
         ensures met { result ≡ first_meeting self.old.channels self.old.posts }
         ensures after { self.new ≡ record self.old { posts = after_meeting result self.old.posts } }
     {
-        let meeting = least_meeting(self.posts.as_slice(), self.channels);
+        let meeting = least_meeting(self.posts.as_slice(), &self.index, self.channels);
         if let Some(meeting) = &meeting {
-            meet(self.posts.as_mut_slice(), meeting);
+            meet(self.posts.as_mut_slice(), &mut self.index, meeting);
         }
         meeting
     }
@@ -80,9 +98,9 @@ impl Board {
         ensures answer { result ≡ answer_of (passing_on clock horizon self.old.posts) }
         ensures after { self.new ≡ record self.old { posts = after_delay result self.old.posts } }
     {
-        let delayed = passing(self.posts.as_slice(), clock, horizon);
+        let delayed = passing(self.posts.as_slice(), &self.index, clock, horizon);
         if let Delayed::Took(by) = &delayed {
-            move_all(self.posts.as_mut_slice(), *by);
+            move_all(self.posts.as_mut_slice(), &mut self.index, *by);
         }
         delayed
     }
@@ -99,28 +117,51 @@ fn going_posts(alloc: Global, count: u32) -> Result<Vec<Post>, AllocError>
     Ok(posts)
 }
 
-/// Makes the post of a process equal to this one.
-fn replace(posts: &mut [Post], process: usize, post: &Post)
-    requires { process < length posts.old }
-    ensures { posts.new ≡ slice_set posts.old process post.now }
+/// Whether a process has a bound or evolves.
+fn waits_for_time(post: &Post) -> bool
+    ensures { result ≡ is_waiting post.now }
 {
-    post.copy_into(&mut posts[process]);
+    post.bound.is_some() | !post.moving.as_slice().is_empty()
+}
+
+/// Makes the post of a process equal to this one.
+fn replace(posts: &mut [Post], index: &mut Index, process: u32, post: &Post)
+    requires there { process < length posts.old }
+    requires within { length posts.old ≤ most_processes }
+    requires index { IsIndexOf index.old posts.old }
+    ensures posts { posts.new ≡ slice_set posts.old process post.now }
+    ensures index { IsIndexOf index.new posts.new }
+{
+    let shown = &mut posts[process as usize];
+    index.mark_all(shown.offers.as_slice(), process, false);
+    index.mark_all(post.offers.as_slice(), process, true);
+    index.mark_timed(process, waits_for_time(post));
+    post.copy_into(shown);
 }
 
 /// Shows that a process is going.
-fn set_going(posts: &mut [Post], process: usize)
-    requires { process < length posts.old }
-    ensures { posts.new ≡ slice_set posts.old process going_post }
+fn set_going(posts: &mut [Post], index: &mut Index, process: u32)
+    requires there { process < length posts.old }
+    requires within { length posts.old ≤ most_processes }
+    requires index { IsIndexOf index.old posts.old }
+    ensures posts { posts.new ≡ slice_set posts.old process going_post }
+    ensures index { IsIndexOf index.new posts.new }
 {
-    posts[process].show(Phase::Going);
+    let post = &mut posts[process as usize];
+    index.mark_all(post.offers.as_slice(), process, false);
+    index.mark_timed(process, false);
+    post.show(Phase::Going);
 }
 
 /// Shows that the two that met are going.
-fn meet(posts: &mut [Post], meeting: &Meeting)
+fn meet(posts: &mut [Post], index: &mut Index, meeting: &Meeting)
     requires sender { meeting.now.sender < length posts.old }
     requires receiver { meeting.now.receiver < length posts.old }
-    ensures { posts.new ≡ fired meeting.now posts.old }
+    requires within { length posts.old ≤ most_processes }
+    requires index { IsIndexOf index.old posts.old }
+    ensures posts { posts.new ≡ fired meeting.now posts.old }
+    ensures index { IsIndexOf index.new posts.new }
 {
-    set_going(posts, meeting.sender as usize);
-    set_going(posts, meeting.receiver as usize);
+    set_going(posts, index, meeting.sender);
+    set_going(posts, index, meeting.receiver);
 }

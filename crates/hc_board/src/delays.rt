@@ -1,39 +1,39 @@
 //! How long a delay lasts, and what it does.
 
-ghost use Rattle.std.specs.Prelude.{◌≡◌, map, IsTrue, ◌&&◌, SomeIff};
+ghost use Rattle.std.specs.Prelude.{◌≡◌, ◌<◌, ◌≤◌, length, map, slice_set, IsTrue, ◌&&◌, SomeIff};
 ghost use Rattle.std.specs.List.{list_all};
 ghost use Rattle.hc_rational.specs.Words.{◌+ℚ◌, ◌-ℚ◌, lesser, fits, IsFrac};
-ghost use Rattle.hc_term.specs.Posts.{least_bound, is_timed, length_of_delay, post_fits, passing_for, passing_on};
-ghost use Rattle.hc_term.specs.Moved.{moved_post};
+ghost use Rattle.hc_term.specs.Posts.{least_bound, length_of_delay, post_fits, passing_for, passing_on};
+ghost use Rattle.hc_term.specs.Process.{is_due};
+ghost use Rattle.hc_term.specs.Moved.{less_by, moved_post};
+ghost use Rattle.hc_limits.specs.Limits.{most_processes};
 ghost use Rattle.hc_board.specs.Answers.{answer_of};
+ghost use Rattle.hc_board.specs.MeetingBoard.{shown};
+ghost use Rattle.hc_board.specs.Index.{IsIndexOf};
 
 use crate::delayed::Delayed;
+use crate::index::Index;
 use hc_frac::{Frac, earlier};
 use hc_term::Post;
 use std::cmp::Ordering;
 
 // ---- what waits for time
 
-/// Whether some post has a bound or evolves.
-fn is_some_timed(posts: &[Post]) -> bool
-    ensures { result ≡ is_timed posts.now }
-{
-    for post in posts {
-        if post.bound.is_some() | !post.moving.as_slice().is_empty() {
-            return true;
-        }
-    }
-    false
-}
-
 /// The least bound of all posts.
-fn least_bound_of(posts: &[Post]) -> Option<Frac>
+fn least_bound_of(posts: &[Post], index: &Index) -> Option<Frac>
+    requires within { length posts.now ≤ most_processes }
+    requires index { IsIndexOf index.now posts.now }
     ensures { result ≡ least_bound posts.now }
 {
-    match posts {
-        [] => None,
-        [first, rest @ ..] => earlier(first.bound, least_bound_of(rest)),
+    let mut least = None;
+    let mut at = posts.len();
+    while at > 0 {
+        at -= 1;
+        if index.is_waiting(at as u32) {
+            least = earlier(posts[at].bound, least);
+        }
     }
+    least
 }
 
 // ---- how long it lasts
@@ -90,25 +90,31 @@ fn length_of(clock: Frac, horizon: Frac, least: Option<Frac>) -> Option<Frac>
 // ---- whether it fits, and what it does
 
 /// Whether the working values of all posts fit.
-fn can_all_move(posts: &[Post], by: Frac) -> bool
+fn can_all_move(posts: &[Post], index: &Index, by: Frac) -> bool
+    requires within { length posts.now ≤ most_processes }
+    requires index { IsIndexOf index.now posts.now }
     ensures { result ≡ list_all (post_fits by) posts.now }
 {
-    for post in posts {
-        if !post.fits(by) {
-            return false;
+    for at in 0..posts.len() {
+        if index.is_waiting(at as u32) {
+            if !posts[at].fits(by) {
+                return false;
+            }
         }
     }
     true
 }
 
 /// How time passes below the horizon.
-fn passing_below_horizon(posts: &[Post], clock: Frac, horizon: Frac) -> Delayed
+fn passing_below_horizon(posts: &[Post], index: &Index, clock: Frac, horizon: Frac) -> Delayed
+    requires within { length posts.now ≤ most_processes }
+    requires index { IsIndexOf index.now posts.now }
     ensures { result ≡ answer_of (passing_for (length_of_delay (horizon -ℚ clock) (least_bound posts.now)) clock posts.now) }
 {
-    let Some(by) = length_of(clock, horizon, least_bound_of(posts)) else {
+    let Some(by) = length_of(clock, horizon, least_bound_of(posts, index)) else {
         return Delayed::Unfit;
     };
-    if can_all_move(posts, by) {
+    if can_all_move(posts, index, by) {
         Delayed::Took(by)
     } else {
         Delayed::Unfit
@@ -116,25 +122,61 @@ fn passing_below_horizon(posts: &[Post], clock: Frac, horizon: Frac) -> Delayed
 }
 
 /// How time passes.
-pub(crate) fn passing(posts: &[Post], clock: Frac, horizon: Frac) -> Delayed
+pub(crate) fn passing(posts: &[Post], index: &Index, clock: Frac, horizon: Frac) -> Delayed
+    requires within { length posts.now ≤ most_processes }
+    requires index { IsIndexOf index.now posts.now }
     ensures { result ≡ answer_of (passing_on clock horizon posts.now) }
 {
-    if !is_some_timed(posts) {
+    if !index.is_some_waiting() {
         return Delayed::NoBound;
     }
     match clock.compare(horizon) {
-        Ordering::Less => passing_below_horizon(posts, clock, horizon),
+        Ordering::Less => passing_below_horizon(posts, index, clock, horizon),
         Ordering::Equal => Delayed::AtHorizon,
         Ordering::Greater => Delayed::AtHorizon,
     }
 }
 
+/// Whether a bound runs out with the delay.
+fn runs_out(bound: Option<Frac>, by: Frac) -> bool
+    ensures { result ≡ is_due (less_by by bound) }
+{
+    match bound {
+        Some(bound) => bound.same(by),
+        None => false,
+    }
+}
+
+/// Lets so many time units pass for one post. Where its bound runs out it offers nothing.
+fn move_post(posts: &mut [Post], index: &mut Index, process: u32, by: Frac)
+    requires there { process < length posts.old }
+    requires within { length posts.old ≤ most_processes }
+    requires fits { IsTrue (post_fits by (shown posts.old process)) }
+    requires index { IsIndexOf index.old posts.old }
+    ensures posts { posts.new ≡ slice_set posts.old process (moved_post by (shown posts.old process)) }
+    ensures index { IsIndexOf index.new posts.new }
+{
+    if !index.is_waiting(process) {
+        return;
+    }
+    let post = &mut posts[process as usize];
+    if runs_out(post.bound, by) {
+        index.mark_all(post.offers.as_slice(), process, false);
+        post.move_by(by);
+    } else {
+        post.move_by(by);
+    }
+}
+
 /// Lets so many time units pass for all posts.
-pub(crate) fn move_all(posts: &mut [Post], by: Frac)
-    requires { IsTrue (list_all (post_fits by) posts.old) }
-    ensures { posts.new ≡ map (moved_post by) posts.old }
+pub(crate) fn move_all(posts: &mut [Post], index: &mut Index, by: Frac)
+    requires within { length posts.old ≤ most_processes }
+    requires fits { IsTrue (list_all (post_fits by) posts.old) }
+    requires index { IsIndexOf index.old posts.old }
+    ensures posts { posts.new ≡ map (moved_post by) posts.old }
+    ensures index { IsIndexOf index.new posts.new }
 {
     for at in 0..posts.len() {
-        posts[at].move_by(by);
+        move_post(posts, index, at as u32, by);
     }
 }

@@ -1,9 +1,11 @@
 //! The board on which the processes of a system post what they show, where they meet, and on which time passes.
 #![tactic(auto)]
 
+mod bits;
 mod board;
 mod delayed;
 mod delays;
+mod index;
 mod laws;
 mod meetings;
 #[cfg(test)]

@@ -1,19 +1,24 @@
 use Rattle.std.proofs.Common.{sym, ◌∙◌, arith}
-use Rattle.hc_board.proofs.Marked.{both-marked}
-use Rattle.hc_board.proofs.ReadyChannels.{meeting_from-next, meeting_from-found}
+use Rattle.hc_board.proofs.ReadyIndex.{none_of, first_of_least}
 use Rattle.hc_board.proofs.meetings.least_meeting.Goals as goal
 
-pub returns-then-sent-channel : goal.returns-then-sent-channel
-returns-then-sent-channel c =
-    let at = c.loop-channel.channel in
-    let ps = c.args.posts.now in
-    let marked = both-marked _ _ at ps _ _ c.marks_of-sent.ensures c.marks_of-received.ensures (omega (arith, c.loop-channel-test.true, c.requires.channels)) in
-    c.meeting_at.ensures
-    ∙ sym (c.loop-channel.invariant ∙ meeting_from-found at c.args.channels ps c.loop-channel-test.true (sym marked ∙ c.if-sent-channel.true))
+pub returns-in_default : goal.returns-in_default
+returns-in_default c =
+    let words = c.requires.index.whole.words in
+    let most = c.requires.channels in
+    sym (none_of c.args.index.now c.args.posts.now c.requires.index c.requires.processes c.args.channels most
+    (λ i low. (c.in_default.ensures {u = tt}).none i (omega (arith, low, most, words))))
 
-pub loop-channel-preserved : goal.loop-channel-preserved
-loop-channel-preserved c =
-    let at = c.loop-channel.channel in
-    let ps = c.args.posts.now in
-    let marked = both-marked _ _ at ps _ _ c.marks_of-sent.ensures c.marks_of-received.ensures (omega (arith, c.loop-channel-test.true, c.requires.channels)) in
-    c.loop-channel.invariant ∙ meeting_from-next at c.args.channels ps c.loop-channel-test.true (sym marked ∙ c.if-sent-channel.false)
+pub returns-then-channel-channels : goal.returns-then-channel-channels
+returns-then-channel-channels c =
+    let past = c.if-channel-channels.true in
+    sym (none_of c.args.index.now c.args.posts.now c.requires.index c.requires.processes c.args.channels c.requires.channels
+    (λ i low. (c.in-Some.ensures {u = tt}).least.first i (omega (arith, low, past))))
+
+pub returns : goal.returns
+returns c =
+    let below = c.if-channel-channels.false in
+    let least = (c.in-Some.ensures {u = tt}).least in
+    c.meeting_at.ensures
+    ∙ sym (first_of_least c.args.index.now c.args.posts.now c.requires.index c.requires.processes c.args.channels c.requires.channels
+    c.in-Some.channel (omega (arith, below)) least.member least.first)

@@ -1,0 +1,9 @@
+use Rattle.hc_board.proofs.IndexOf.{replaced_by}
+use Rattle.hc_board.proofs.board.replace.Goals as goal
+
+pub returns-clause-index : goal.returns-clause-index
+returns-clause-index c =
+    replaced_by c.args.posts.now c.args.process c.index-posts-process.result c.args.post.now c.copy_into.new.to c.as_slice.result.now
+    c.as_slice-2.result.now c.waits_for_time.result c.args.index.now c.mark_all.new.self c.mark_all-2.new.self c.mark_timed.new.self
+    c.requires.there c.requires.within c.requires.index c.as_slice.ensures.elements c.mark_all.ensures c.as_slice-2.ensures.elements
+    c.mark_all-2.ensures c.waits_for_time.ensures c.mark_timed.ensures c.copy_into.ensures

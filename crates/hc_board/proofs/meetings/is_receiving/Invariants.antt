@@ -1,6 +1,0 @@
-use Rattle.std.proofs.Common.{◌≡◌, drop}
-use Rattle.hc_term.specs.Posts.{receives_on}
-use Rattle.hc_board.proofs.meetings.is_receiving.Given as goal
-
-abbrev pub invariant-loop-offer : goal.invariant-loop-offer
-invariant-loop-offer l = receives_on l.channel l.offers ≡ receives_on l.channel (drop l.offer-index l.offers)

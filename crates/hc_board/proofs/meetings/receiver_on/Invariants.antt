@@ -1,9 +1,0 @@
-use Rattle.std.proofs.Common.{◌≡◌, drop}
-use Rattle.hc_term.specs.Posts.{receiver}
-use Rattle.hc_board.proofs.meetings.receiver_on.Given as goal
-
-abbrev pub invariant-loop-post : goal.invariant-loop-post
-invariant-loop-post l = record {
-  counted : l.number ≡ l.post-index;
-  same : receiver l.channel 0 l.posts ≡ receiver l.channel l.number (drop l.post-index l.posts);
-}
