@@ -1,0 +1,4 @@
+pub mod Dealing
+pub mod Marks
+pub mod Zeros
+pub mod Crossing

@@ -1,0 +1,4 @@
+pub mod Lanes
+pub mod Wanted
+pub mod Counted
+pub mod Outcomes
