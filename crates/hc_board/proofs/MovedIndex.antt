@@ -136,7 +136,7 @@ module _ (p : Post) (h : is_waiting p ≡ false) where
       unmoving unbounded
       ∙ ap₂ (λ ms b. record p { moving = ms; bound = b }) (sym unmoving) (sym unbounded)
 
--- those of posts of which one waits for no time
+-- posts stay where one of them is moved that waits for no time
 pub set_unmoved : (d : Rational) (ps : List Post) (p : ℕ) → is_waiting (shown ps p) ≡ false → set ps p (moved_post d (shown ps p)) ≡ ps
 set_unmoved d ps p h = ap (set ps p) (unmoved (shown ps p) h d) ∙ set-get_or ps p going_post
 

@@ -3,7 +3,7 @@
 ghost use Rattle.std.specs.Prelude.{◌≡◌, ◌<◌, ◌≤◌, List, length, ◌&&◌, ◌==◌, ℕ, Bool, false, not, replicate};
 ghost use Rattle.std.specs.List.{list_any};
 ghost use Rattle.hc_limits.specs.Limits.{most_processes, most_channels};
-ghost use Rattle.hc_term.specs.declared.post.Post.{Post as Shown};
+ghost use Rattle.hc_term.specs.declared.post.Post.{Post};
 ghost use Rattle.hc_term.specs.Posts.{is_timed};
 ghost use Rattle.hc_term.specs.Together.{is_offer};
 ghost use Rattle.hc_board.specs.Bits.{has};
@@ -124,7 +124,7 @@ impl Index {
 
     /// Whether some process has a bound or evolves.
     pub(crate) fn is_some_waiting(&self) -> bool
-        ensures { (ps : List Shown) → IsIndexOf self.now ps → length ps ≤ most_processes → result ≡ is_timed ps }
+        ensures { (ps : List Post) → IsIndexOf self.now ps → length ps ≤ most_processes → result ≡ is_timed ps }
     {
         self.timed != 0
     }

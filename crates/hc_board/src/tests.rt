@@ -44,6 +44,7 @@ fn two_meet_and_one_waits(rt: HostRuntime) -> Result<(), Fail> {
     );
     board.post(1, &waiting(two));
     board.post(2, &offering(Offer::Receive { channel: 1 }));
+    assert_eq!(rt; board.ready()[0], 2);
     assert_eq!(rt;
         board.fire(),
         Some(Meeting {
@@ -53,6 +54,7 @@ fn two_meet_and_one_waits(rt: HostRuntime) -> Result<(), Fail> {
             value: two
         })
     );
+    assert_eq!(rt; board.ready()[0], 0);
     assert_eq!(rt; board.fire(), None);
     assert_eq!(rt; board.delay(zero, three), Delayed::Took(two));
     assert_eq!(rt; board.posts().len(), 3);
