@@ -2,6 +2,7 @@
 
 ghost use Rattle.std.specs.Prelude.{◌≡◌, IfOk};
 
+use crate::lists::Copied;
 use hc_frac::{Decimal, Name, Place};
 use hc_list::Boxed;
 use std::alloc::{AllocError, Global};
@@ -160,4 +161,10 @@ fn boxed_cond(alloc: Global, part: &Boxed<CondTree>) -> Result<Boxed<CondTree>, 
 {
     let copy = part.get().copy(alloc)?;
     Boxed::new(alloc, copy)
+}
+
+impl Copied for ExprTree {
+    fn copied(&self, alloc: Global) -> Result<ExprTree, AllocError> {
+        self.copy(alloc)
+    }
 }

@@ -3,6 +3,7 @@
 
 mod expr;
 mod flaw;
+mod lists;
 mod role;
 mod same;
 mod stmt;

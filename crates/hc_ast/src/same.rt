@@ -1,9 +1,9 @@
 //! Whether two trees are equal in all but places.
 
 ghost use Rattle.std.specs.Prelude.{◌≡◌, ◌↔◌, IsTrue};
-ghost use Rattle.std.specs.Prelude.{map};
 ghost use Rattle.hc_ast.specs.Unplaced.{bare_expr, bare_cond, bare_io, bare_rate, bare_stmt, bare_stmts, bare_branch, bare_branches};
 
+use crate::lists::{Alike, all_alike};
 use crate::{
     BranchTree, CondKind, CondTree, ExprKind, ExprTree, IoTree, RateTree, StmtKind, StmtTree,
 };
@@ -70,18 +70,30 @@ fn same_rate(left: &RateTree, right: &RateTree) -> bool
     left.variable == right.variable && same_expr(&left.value, &right.value)
 }
 
-fn same_rates(left: &[RateTree], right: &[RateTree]) -> bool
-    ensures { IsTrue result ↔ (map bare_rate left.now ≡ map bare_rate right.now) }
-{
-    if left.len() != right.len() {
-        return false;
+impl Alike for RateTree {
+    ghost use Rattle.hc_ast.specs.Bare.{BareRate};
+    ghost use Rattle.hc_ast.specs.Unplaced.{bare_rate};
+
+    ghost Bare = { BareRate };
+
+    ghost bare = { bare_rate };
+
+    fn is_like(&self, other: &RateTree) -> bool {
+        same_rate(self, other)
     }
-    for (at, rate) in left.iter().enumerate() {
-        if !same_rate(rate, &right[at]) {
-            return false;
-        }
+}
+
+impl Alike for ExprTree {
+    ghost use Rattle.hc_ast.specs.Bare.{BareExpr};
+    ghost use Rattle.hc_ast.specs.Unplaced.{bare_expr};
+
+    ghost Bare = { BareExpr };
+
+    ghost bare = { bare_expr };
+
+    fn is_like(&self, other: &ExprTree) -> bool {
+        same_expr(self, other)
     }
-    true
 }
 
 /// Whether two statements are.
@@ -156,7 +168,7 @@ fn same_stmt(left: &StmtTree, right: &StmtTree) -> bool
                 domain: other,
                 branches: others,
             },
-        ) => same_rates(rates.as_slice(), other_rates.as_slice())
+        ) => all_alike(rates.as_slice(), other_rates.as_slice())
             && same_cond(domain, other)
             && same_branches(branches.as_slice(), others.as_slice()),
         _ => false,

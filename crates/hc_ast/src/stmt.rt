@@ -2,6 +2,7 @@
 
 ghost use Rattle.std.specs.Prelude.{◌≡◌, IfOk};
 
+use crate::lists::{Copied, copies};
 use crate::{CondTree, ExprTree};
 use hc_frac::{Name, Place};
 use hc_list::List;
@@ -119,14 +120,10 @@ impl RateTree {
     }
 }
 
-fn copy_rates(alloc: Global, rates: &[RateTree]) -> Result<List<RateTree>, AllocError>
-    ensures { IfOk result (λ found. found ≡ rates.now) }
-{
-    let mut found = List::new(alloc);
-    for rate in rates {
-        found.push(rate.copy(alloc)?)?;
+impl Copied for RateTree {
+    fn copied(&self, alloc: Global) -> Result<RateTree, AllocError> {
+        self.copy(alloc)
     }
-    Ok(found)
 }
 
 impl StmtTree {
@@ -220,7 +217,7 @@ impl StmtKind {
                 domain,
                 branches,
             } => {
-                let rates = copy_rates(alloc, rates.as_slice())?;
+                let rates = copies(alloc, rates.as_slice())?;
                 let domain = domain.copy(alloc)?;
                 let branches = copy_branches(alloc, branches.as_slice())?;
                 Ok(StmtKind::Evolve {

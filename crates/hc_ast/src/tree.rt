@@ -2,6 +2,7 @@
 
 ghost use Rattle.std.specs.Prelude.{◌≡◌, IfOk};
 
+use crate::lists::{Copied, copies};
 use crate::stmt::copy_statements;
 use crate::{ExprTree, StmtTree};
 use hc_frac::{Name, Place};
@@ -63,8 +64,8 @@ impl Tree {
     pub fn copy(&self, alloc: Global) -> Result<Tree, AllocError>
         ensures { IfOk result (λ t. t ≡ self.now) }
     {
-        let modules = copy_modules(alloc, self.modules.as_slice())?;
-        let processes = copy_processes(alloc, self.processes.as_slice())?;
+        let modules = copies(alloc, self.modules.as_slice())?;
+        let processes = copies(alloc, self.processes.as_slice())?;
         Ok(Tree { modules, processes })
     }
 }
@@ -74,7 +75,7 @@ impl ModuleDef {
     pub fn copy(&self, alloc: Global) -> Result<ModuleDef, AllocError>
         ensures { IfOk result (λ t. t ≡ self.now) }
     {
-        let params = copy_params(alloc, self.params.as_slice())?;
+        let params = copies(alloc, self.params.as_slice())?;
         let body = copy_statements(alloc, self.body.as_slice())?;
         Ok(ModuleDef {
             place: self.place,
@@ -127,7 +128,7 @@ impl Body {
                 module,
                 arguments,
             } => {
-                let arguments = copy_arguments(alloc, arguments.as_slice())?;
+                let arguments = copies(alloc, arguments.as_slice())?;
                 Ok(Body::Call {
                     place: *place,
                     module: module.copy(),
@@ -138,42 +139,20 @@ impl Body {
     }
 }
 
-fn copy_modules(alloc: Global, modules: &[ModuleDef]) -> Result<List<ModuleDef>, AllocError>
-    ensures { IfOk result (λ found. found ≡ modules.now) }
-{
-    let mut found = List::new(alloc);
-    for module in modules {
-        found.push(module.copy(alloc)?)?;
+impl Copied for ModuleDef {
+    fn copied(&self, alloc: Global) -> Result<ModuleDef, AllocError> {
+        self.copy(alloc)
     }
-    Ok(found)
 }
 
-fn copy_params(alloc: Global, params: &[Param]) -> Result<List<Param>, AllocError>
-    ensures { IfOk result (λ found. found ≡ params.now) }
-{
-    let mut found = List::new(alloc);
-    for param in params {
-        found.push(param.copy())?;
+impl Copied for Param {
+    fn copied(&self, _alloc: Global) -> Result<Param, AllocError> {
+        Ok(self.copy())
     }
-    Ok(found)
 }
 
-fn copy_processes(alloc: Global, processes: &[ProcessDef]) -> Result<List<ProcessDef>, AllocError>
-    ensures { IfOk result (λ found. found ≡ processes.now) }
-{
-    let mut found = List::new(alloc);
-    for process in processes {
-        found.push(process.copy(alloc)?)?;
+impl Copied for ProcessDef {
+    fn copied(&self, alloc: Global) -> Result<ProcessDef, AllocError> {
+        self.copy(alloc)
     }
-    Ok(found)
-}
-
-fn copy_arguments(alloc: Global, arguments: &[ExprTree]) -> Result<List<ExprTree>, AllocError>
-    ensures { IfOk result (λ found. found ≡ arguments.now) }
-{
-    let mut found = List::new(alloc);
-    for argument in arguments {
-        found.push(argument.copy(alloc)?)?;
-    }
-    Ok(found)
 }

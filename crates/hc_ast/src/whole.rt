@@ -1,73 +1,32 @@
 //! Whether two whole sources are equal in all but places.
 
-ghost use Rattle.std.specs.Prelude.{◌≡◌, ◌↔◌, IsTrue, map};
-ghost use Rattle.hc_ast.specs.Unplaced.{bare_expr, bare_param, bare_module, bare_body, bare_process, bare};
+ghost use Rattle.std.specs.Prelude.{◌≡◌, ◌↔◌, IsTrue};
+ghost use Rattle.hc_ast.specs.Unplaced.{bare_param, bare_module, bare_body, bare_process, bare};
 
-use crate::same::{same_expr, same_statements};
-use crate::{Body, ExprTree, ModuleDef, Param, ProcessDef, Tree};
+use crate::lists::{Alike, all_alike};
+use crate::same::same_statements;
+use crate::{Body, ModuleDef, Param, ProcessDef, Tree};
 
 /// Whether two trees are equal in all but places.
 pub fn same_tree(left: &Tree, right: &Tree) -> bool
     ensures { IsTrue result ↔ (bare left.now ≡ bare right.now) }
 {
-    same_modules(left.modules.as_slice(), right.modules.as_slice())
-        && same_processes(left.processes.as_slice(), right.processes.as_slice())
-}
-
-fn same_modules(left: &[ModuleDef], right: &[ModuleDef]) -> bool
-    ensures { IsTrue result ↔ (map bare_module left.now ≡ map bare_module right.now) }
-{
-    if left.len() != right.len() {
-        return false;
-    }
-    for (at, module) in left.iter().enumerate() {
-        if !same_module(module, &right[at]) {
-            return false;
-        }
-    }
-    true
+    all_alike(left.modules.as_slice(), right.modules.as_slice())
+        && all_alike(left.processes.as_slice(), right.processes.as_slice())
 }
 
 fn same_module(left: &ModuleDef, right: &ModuleDef) -> bool
     ensures { IsTrue result ↔ (bare_module left.now ≡ bare_module right.now) }
 {
     left.name == right.name
-        && same_params(left.params.as_slice(), right.params.as_slice())
+        && all_alike(left.params.as_slice(), right.params.as_slice())
         && same_statements(left.body.as_slice(), right.body.as_slice())
-}
-
-fn same_params(left: &[Param], right: &[Param]) -> bool
-    ensures { IsTrue result ↔ (map bare_param left.now ≡ map bare_param right.now) }
-{
-    if left.len() != right.len() {
-        return false;
-    }
-    for (at, param) in left.iter().enumerate() {
-        if !same_param(param, &right[at]) {
-            return false;
-        }
-    }
-    true
 }
 
 fn same_param(left: &Param, right: &Param) -> bool
     ensures { IsTrue result ↔ (bare_param left.now ≡ bare_param right.now) }
 {
     left.kind == right.kind && left.name == right.name
-}
-
-fn same_processes(left: &[ProcessDef], right: &[ProcessDef]) -> bool
-    ensures { IsTrue result ↔ (map bare_process left.now ≡ map bare_process right.now) }
-{
-    if left.len() != right.len() {
-        return false;
-    }
-    for (at, process) in left.iter().enumerate() {
-        if !same_process(process, &right[at]) {
-            return false;
-        }
-    }
-    true
 }
 
 fn same_process(left: &ProcessDef, right: &ProcessDef) -> bool
@@ -95,21 +54,46 @@ fn same_body(left: &Body, right: &Body) -> bool
                 arguments: others,
                 ..
             },
-        ) => module == other && same_arguments(arguments.as_slice(), others.as_slice()),
+        ) => module == other && all_alike(arguments.as_slice(), others.as_slice()),
         _ => false,
     }
 }
 
-fn same_arguments(left: &[ExprTree], right: &[ExprTree]) -> bool
-    ensures { IsTrue result ↔ (map bare_expr left.now ≡ map bare_expr right.now) }
-{
-    if left.len() != right.len() {
-        return false;
+impl Alike for ModuleDef {
+    ghost use Rattle.hc_ast.specs.Bare.{BareModule};
+    ghost use Rattle.hc_ast.specs.Unplaced.{bare_module};
+
+    ghost Bare = { BareModule };
+
+    ghost bare = { bare_module };
+
+    fn is_like(&self, other: &ModuleDef) -> bool {
+        same_module(self, other)
     }
-    for (at, argument) in left.iter().enumerate() {
-        if !same_expr(argument, &right[at]) {
-            return false;
-        }
+}
+
+impl Alike for Param {
+    ghost use Rattle.hc_ast.specs.Bare.{BareParam};
+    ghost use Rattle.hc_ast.specs.Unplaced.{bare_param};
+
+    ghost Bare = { BareParam };
+
+    ghost bare = { bare_param };
+
+    fn is_like(&self, other: &Param) -> bool {
+        same_param(self, other)
     }
-    true
+}
+
+impl Alike for ProcessDef {
+    ghost use Rattle.hc_ast.specs.Bare.{BareProcess};
+    ghost use Rattle.hc_ast.specs.Unplaced.{bare_process};
+
+    ghost Bare = { BareProcess };
+
+    ghost bare = { bare_process };
+
+    fn is_like(&self, other: &ProcessDef) -> bool {
+        same_process(self, other)
+    }
 }
