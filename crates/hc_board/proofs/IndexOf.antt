@@ -209,7 +209,7 @@ module _ (o : Index) (ps : List Post) (t : IsIndexOf o ps) (within : length ps �
 
 -- ---- an index without marks
 
-always : {X : Type 0} (n i : ℕ) (d : X) → get_or (replicate n d) i d ≡ d
+pub always : {X : Type 0} (n i : ℕ) (d : X) → get_or (replicate n d) i d ≡ d
 always n i d =
     elim (cases_lt i n) [
       | inl low ↦ get_or-replicate n i d d low

@@ -8,3 +8,6 @@ pub mod Marking
 pub mod IndexOf
 pub mod MovedIndex
 pub mod ReadyIndex
+pub mod Edited
+pub mod DueSet
+pub mod DeadlinesOf

@@ -7,7 +7,9 @@ use Rattle.hc_term.specs.declared.post.Post.{Post}
 use Rattle.hc_term.specs.Posts.{is_empty}
 use Rattle.hc_term.specs.Together.{is_offer}
 use Rattle.hc_board.specs.declared.index.Index.{Index}
+use Rattle.hc_board.specs.declared.deadlines.Deadline.{Deadline}
 use Rattle.hc_board.specs.Bits.{has, is_in}
+use Rattle.hc_board.specs.Deadlines.{AreDeadlinesOf}
 use Rattle.hc_board.specs.MeetingBoard.{shown}
 use Rattle.hc_board.specs.Seen.{KeepsLimits}
 
@@ -72,7 +74,8 @@ pub record IsIndexOf (o : Index) (ps : List Post) : Type 0 where
       is_marked sending o c p ≡ offers_on sending c (shown ps p)
   pub timed : (p : ℕ) → p < most_processes → has o.timed p ≡ is_waiting (shown ps p)
 
--- what every board keeps: the limits, and an index of its posts
-pub record IsKept (ps : List Post) (channels : ℕ) (o : Index) : Type 0 where
+-- what every board keeps: the limits, an index of its posts, and their deadlines
+pub record IsKept (ps : List Post) (channels : ℕ) (o : Index) (ds : List Deadline) : Type 0 where
   pub limits : KeepsLimits ps channels
   pub index : IsIndexOf o ps
+  pub deadlines : AreDeadlinesOf ds ps

@@ -3,3 +3,4 @@ pub mod Seen
 pub mod Answers
 pub mod MeetingBoard
 pub mod Index
+pub mod Deadlines

@@ -10,7 +10,9 @@ ghost use Rattle.hc_board.specs.Answers.{answer_of, after_delay, after_meeting};
 ghost use Rattle.hc_board.specs.Bits.{is_in};
 ghost use Rattle.hc_board.specs.MeetingBoard.{IsReady};
 ghost use Rattle.hc_board.specs.Index.{is_waiting, IsIndexOf};
+ghost use Rattle.hc_board.specs.Deadlines.{AreDeadlinesOf};
 
+use crate::deadlines::{Deadline, Deadlines};
 use crate::delayed::Delayed;
 use crate::delays::{move_all, passing};
 use crate::index::Index;
@@ -21,13 +23,14 @@ use std::alloc::{AllocError, Global};
 use std::marker::Model;
 
 /// What each process shows to the others, by the numbers of the processes: at most 64 posts, over at most 256 channels.
-/// Beside them stands an index, so that ready channels and the processes that wait for time are found without looking through
-/// them. Only `open` takes memory.
+/// Beside them stand an index, so that ready channels and the processes that wait for time are found without looking through
+/// them, and a list of the deadlines. Only `open` takes memory.
 #[derive(Drop)]
 pub struct Board {
     posts: Vec<Post>,
     channels: u32,
     index: Index,
+    deadlines: Deadlines,
 }
 
 impl Model for Board {
@@ -38,7 +41,7 @@ impl Model for Board {
 
     ghost view = { λ b. record { posts = b.posts.items; channels = b.channels } };
 
-    ghost invariant = { λ b. IsKept b.posts.items b.channels b.index };
+    ghost invariant = { λ b. IsKept b.posts.items b.channels b.index b.deadlines.list.items };
 }
 
 impl Board {
@@ -53,6 +56,7 @@ impl Board {
             posts,
             channels,
             index: Index::nothing(),
+            deadlines: Deadlines::none(),
         })
     }
 
@@ -71,12 +75,25 @@ impl Board {
         &self.index.ready
     }
 
+    /// The deadlines: exactly one for each post whose `due` isn't `None`, ordered by moment and then process.
+    pub fn deadlines(&self) -> &[Deadline]
+        ensures { AreDeadlinesOf result.now self.now.posts }
+    {
+        self.deadlines.list.as_slice()
+    }
+
     /// Replaces what a process shows.
     pub fn post(&mut self, process: u32, post: &Post)
         requires { process < length self.old.posts }
         ensures { self.new ≡ record self.old { posts = slice_set self.old.posts process post.now } }
     {
-        replace(self.posts.as_mut_slice(), &mut self.index, process, post);
+        replace(
+            self.posts.as_mut_slice(),
+            &mut self.index,
+            &mut self.deadlines,
+            process,
+            post,
+        );
     }
 
     /// Lets the two meet that offer both ends of a channel, of the ready channel with the least number: both are going
@@ -87,7 +104,12 @@ impl Board {
     {
         let meeting = least_meeting(self.posts.as_slice(), &self.index, self.channels);
         if let Some(meeting) = &meeting {
-            meet(self.posts.as_mut_slice(), &mut self.index, meeting);
+            meet(
+                self.posts.as_mut_slice(),
+                &mut self.index,
+                &mut self.deadlines,
+                meeting,
+            );
         }
         meeting
     }
@@ -100,7 +122,12 @@ impl Board {
     {
         let delayed = passing(self.posts.as_slice(), &self.index, clock, horizon);
         if let Delayed::Took(by) = &delayed {
-            move_all(self.posts.as_mut_slice(), &mut self.index, *by);
+            move_all(
+                self.posts.as_mut_slice(),
+                &mut self.index,
+                &mut self.deadlines,
+                *by,
+            );
         }
         delayed
     }
@@ -125,43 +152,57 @@ fn waits_for_time(post: &Post) -> bool
 }
 
 /// Makes the post of a process equal to this one.
-fn replace(posts: &mut [Post], index: &mut Index, process: u32, post: &Post)
+fn replace(
+    posts: &mut [Post],
+    index: &mut Index,
+    deadlines: &mut Deadlines,
+    process: u32,
+    post: &Post,
+)
     requires there { process < length posts.old }
     requires within { length posts.old ≤ most_processes }
     requires index { IsIndexOf index.old posts.old }
+    requires deadlines { AreDeadlinesOf deadlines.old.list.items posts.old }
     ensures posts { posts.new ≡ slice_set posts.old process post.now }
     ensures index { IsIndexOf index.new posts.new }
+    ensures deadlines { AreDeadlinesOf deadlines.new.list.items posts.new }
 {
     let shown = &mut posts[process as usize];
     index.mark_all(shown.offers.as_slice(), process, false);
     index.mark_all(post.offers.as_slice(), process, true);
     index.mark_timed(process, waits_for_time(post));
+    deadlines.set(process, post.due);
     post.copy_into(shown);
 }
 
 /// Shows that a process is going.
-fn set_going(posts: &mut [Post], index: &mut Index, process: u32)
+fn set_going(posts: &mut [Post], index: &mut Index, deadlines: &mut Deadlines, process: u32)
     requires there { process < length posts.old }
     requires within { length posts.old ≤ most_processes }
     requires index { IsIndexOf index.old posts.old }
+    requires deadlines { AreDeadlinesOf deadlines.old.list.items posts.old }
     ensures posts { posts.new ≡ slice_set posts.old process going_post }
     ensures index { IsIndexOf index.new posts.new }
+    ensures deadlines { AreDeadlinesOf deadlines.new.list.items posts.new }
 {
     let post = &mut posts[process as usize];
     index.mark_all(post.offers.as_slice(), process, false);
     index.mark_timed(process, false);
+    deadlines.set(process, None);
     post.show(Phase::Going);
 }
 
 /// Shows that the two that met are going.
-fn meet(posts: &mut [Post], index: &mut Index, meeting: &Meeting)
+fn meet(posts: &mut [Post], index: &mut Index, deadlines: &mut Deadlines, meeting: &Meeting)
     requires sender { meeting.now.sender < length posts.old }
     requires receiver { meeting.now.receiver < length posts.old }
     requires within { length posts.old ≤ most_processes }
     requires index { IsIndexOf index.old posts.old }
+    requires deadlines { AreDeadlinesOf deadlines.old.list.items posts.old }
     ensures posts { posts.new ≡ fired meeting.now posts.old }
     ensures index { IsIndexOf index.new posts.new }
+    ensures deadlines { AreDeadlinesOf deadlines.new.list.items posts.new }
 {
-    set_going(posts, index, meeting.sender);
-    set_going(posts, index, meeting.receiver);
+    set_going(posts, index, deadlines, meeting.sender);
+    set_going(posts, index, deadlines, meeting.receiver);
 }

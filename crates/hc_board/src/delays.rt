@@ -10,7 +10,9 @@ ghost use Rattle.hc_limits.specs.Limits.{most_processes};
 ghost use Rattle.hc_board.specs.Answers.{answer_of};
 ghost use Rattle.hc_board.specs.MeetingBoard.{shown};
 ghost use Rattle.hc_board.specs.Index.{IsIndexOf};
+ghost use Rattle.hc_board.specs.Deadlines.{AreDeadlinesOf};
 
+use crate::deadlines::Deadlines;
 use crate::delayed::Delayed;
 use crate::index::Index;
 use hc_frac::{Frac, earlier};
@@ -147,14 +149,22 @@ fn runs_out(bound: Option<Frac>, by: Frac) -> bool
     }
 }
 
-/// Lets so many time units pass for one post. Where its bound runs out it offers nothing.
-fn move_post(posts: &mut [Post], index: &mut Index, process: u32, by: Frac)
+/// Lets so many time units pass for one post. Where its bound runs out it offers nothing and has no deadline.
+fn move_post(
+    posts: &mut [Post],
+    index: &mut Index,
+    deadlines: &mut Deadlines,
+    process: u32,
+    by: Frac,
+)
     requires there { process < length posts.old }
     requires within { length posts.old ≤ most_processes }
     requires fits { IsTrue (post_fits by (shown posts.old process)) }
     requires index { IsIndexOf index.old posts.old }
+    requires deadlines { AreDeadlinesOf deadlines.old.list.items posts.old }
     ensures posts { posts.new ≡ slice_set posts.old process (moved_post by (shown posts.old process)) }
     ensures index { IsIndexOf index.new posts.new }
+    ensures deadlines { AreDeadlinesOf deadlines.new.list.items posts.new }
 {
     if !index.is_waiting(process) {
         return;
@@ -162,6 +172,7 @@ fn move_post(posts: &mut [Post], index: &mut Index, process: u32, by: Frac)
     let post = &mut posts[process as usize];
     if runs_out(post.bound, by) {
         index.mark_all(post.offers.as_slice(), process, false);
+        deadlines.set(process, None);
         post.move_by(by);
     } else {
         post.move_by(by);
@@ -169,14 +180,16 @@ fn move_post(posts: &mut [Post], index: &mut Index, process: u32, by: Frac)
 }
 
 /// Lets so many time units pass for all posts.
-pub(crate) fn move_all(posts: &mut [Post], index: &mut Index, by: Frac)
+pub(crate) fn move_all(posts: &mut [Post], index: &mut Index, deadlines: &mut Deadlines, by: Frac)
     requires within { length posts.old ≤ most_processes }
     requires fits { IsTrue (list_all (post_fits by) posts.old) }
     requires index { IsIndexOf index.old posts.old }
+    requires deadlines { AreDeadlinesOf deadlines.old.list.items posts.old }
     ensures posts { posts.new ≡ map (moved_post by) posts.old }
     ensures index { IsIndexOf index.new posts.new }
+    ensures deadlines { AreDeadlinesOf deadlines.new.list.items posts.new }
 {
     for at in 0..posts.len() {
-        move_post(posts, index, at as u32, by);
+        move_post(posts, index, deadlines, at as u32, by);
     }
 }

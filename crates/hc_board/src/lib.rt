@@ -3,6 +3,7 @@
 
 mod bits;
 mod board;
+mod deadlines;
 mod delayed;
 mod delays;
 mod index;
@@ -12,5 +13,6 @@ mod meetings;
 mod tests;
 
 pub use board::Board;
+pub use deadlines::Deadline;
 pub use delayed::Delayed;
 pub use laws::board_laws;

@@ -55,8 +55,10 @@ fn two_meet_and_one_waits(rt: HostRuntime) -> Result<(), Fail> {
         })
     );
     assert_eq!(rt; board.ready()[0], 0);
+    assert_eq!(rt; board.deadlines().len(), 1);
     assert_eq!(rt; board.fire(), None);
     assert_eq!(rt; board.delay(zero, three), Delayed::Took(two));
+    assert_eq!(rt; board.deadlines().len(), 0);
     assert_eq!(rt; board.posts().len(), 3);
     Ok(())
 }

@@ -28,10 +28,12 @@ loop-at-preserved c =
           ∙ (ap₂ (λ qs q. set qs c.loop-at.at q) c.loop-at.invariant.moved (ap f (here c.args.by c.loop-at.at ps c.loop-at.posts c.loop-at.invariant.moved))
           ∙ (set-front f c.loop-at.at ps going_post c.loop-at-test.true ∙ ap (λ n. front f n ps) (sym (add-one c.loop-at.at))));
       index = c.move_post.ensures.index;
+      deadlines = c.move_post.ensures.deadlines;
     }
 
 pub returns : goal.returns
 returns c = record {
   posts = c.loop-at.invariant.moved ∙ front-all (moved_post c.args.by) c.loop-at.at c.args.posts.now c.loop-at-test.false;
   index = c.loop-at.invariant.index;
+  deadlines = c.loop-at.invariant.deadlines;
 }
