@@ -1,13 +1,13 @@
 //! Primitives.
 
 ghost use Rattle.std.specs.Prelude.{◌≡◌};
-ghost use Rattle.hc_cast.specs.Prims as spec;
+ghost use Rattle.hc_cast.specs.Primitives as spec;
 
 use hc_frac::Name;
 
 /// A call that every program has: nine on fractions, four that print, and four on the mutex and the conditions.
 #[derive(Clone, Copy, Debug, PartialEq, Eq)]
-pub enum Prim {
+pub enum Primitive {
     /// `fr_set(r, d, n, m)`: register d of row r becomes n by m.
     FrSet,
     /// `fr_move(q, d, r, a)`: register d of row q becomes register a of row r.
@@ -44,31 +44,31 @@ pub enum Prim {
     CWake,
 }
 
-const PRIMITIVES: [Prim; 17] = [
-    Prim::FrSet,
-    Prim::FrMove,
-    Prim::FrAdd,
-    Prim::FrSub,
-    Prim::FrMul,
-    Prim::FrDiv,
-    Prim::FrNeg,
-    Prim::FrCmp,
-    Prim::FrSign,
-    Prim::OutDelay,
-    Prim::OutComm,
-    Prim::OutLog,
-    Prim::OutEnd,
-    Prim::MLock,
-    Prim::MUnlock,
-    Prim::CWait,
-    Prim::CWake,
+const PRIMITIVES: [Primitive; 17] = [
+    Primitive::FrSet,
+    Primitive::FrMove,
+    Primitive::FrAdd,
+    Primitive::FrSub,
+    Primitive::FrMul,
+    Primitive::FrDiv,
+    Primitive::FrNeg,
+    Primitive::FrCmp,
+    Primitive::FrSign,
+    Primitive::OutDelay,
+    Primitive::OutComm,
+    Primitive::OutLog,
+    Primitive::OutEnd,
+    Primitive::MLock,
+    Primitive::MUnlock,
+    Primitive::CWait,
+    Primitive::CWake,
 ];
 
-impl Prim {
+impl Primitive {
     /// The primitive that is spelled so, if there is one.
-    #[tactic(auto, unfolding(crate::specs::Prims::prim_named, crate::specs::Prims::primitives))]
-    pub fn named(word: &[u8]) -> Option<Prim>
-        ensures { result ≡ spec.prim_named word.now }
+    #[tactic(auto, unfolding(crate::specs::Primitives::primitive_named, crate::specs::Primitives::primitives))]
+    pub fn named(word: &[u8]) -> Option<Primitive>
+        ensures { result ≡ spec.primitive_named word.now }
     {
         among(&PRIMITIVES, word)
     }
@@ -78,23 +78,23 @@ impl Prim {
         ensures { result.now ≡ spec.text_of self }
     {
         match self {
-            Prim::FrSet => b"fr_set",
-            Prim::FrMove => b"fr_move",
-            Prim::FrAdd => b"fr_add",
-            Prim::FrSub => b"fr_sub",
-            Prim::FrMul => b"fr_mul",
-            Prim::FrDiv => b"fr_div",
-            Prim::FrNeg => b"fr_neg",
-            Prim::FrCmp => b"fr_cmp",
-            Prim::FrSign => b"fr_sign",
-            Prim::OutDelay => b"out_delay",
-            Prim::OutComm => b"out_comm",
-            Prim::OutLog => b"out_log",
-            Prim::OutEnd => b"out_end",
-            Prim::MLock => b"m_lock",
-            Prim::MUnlock => b"m_unlock",
-            Prim::CWait => b"c_wait",
-            Prim::CWake => b"c_wake",
+            Primitive::FrSet => b"fr_set",
+            Primitive::FrMove => b"fr_move",
+            Primitive::FrAdd => b"fr_add",
+            Primitive::FrSub => b"fr_sub",
+            Primitive::FrMul => b"fr_mul",
+            Primitive::FrDiv => b"fr_div",
+            Primitive::FrNeg => b"fr_neg",
+            Primitive::FrCmp => b"fr_cmp",
+            Primitive::FrSign => b"fr_sign",
+            Primitive::OutDelay => b"out_delay",
+            Primitive::OutComm => b"out_comm",
+            Primitive::OutLog => b"out_log",
+            Primitive::OutEnd => b"out_end",
+            Primitive::MLock => b"m_lock",
+            Primitive::MUnlock => b"m_unlock",
+            Primitive::CWait => b"c_wait",
+            Primitive::CWake => b"c_wake",
         }
     }
 
@@ -114,19 +114,19 @@ impl Prim {
         ensures { result ≡ spec.count self }
     {
         match self {
-            Prim::MLock | Prim::MUnlock => 0,
-            Prim::CWait | Prim::CWake => 1,
-            Prim::FrSign => 2,
-            Prim::FrNeg | Prim::FrCmp | Prim::OutDelay => 3,
-            Prim::FrSet
-            | Prim::FrMove
-            | Prim::FrAdd
-            | Prim::FrSub
-            | Prim::FrMul
-            | Prim::FrDiv
-            | Prim::OutLog
-            | Prim::OutEnd => 4,
-            Prim::OutComm => 6,
+            Primitive::MLock | Primitive::MUnlock => 0,
+            Primitive::CWait | Primitive::CWake => 1,
+            Primitive::FrSign => 2,
+            Primitive::FrNeg | Primitive::FrCmp | Primitive::OutDelay => 3,
+            Primitive::FrSet
+            | Primitive::FrMove
+            | Primitive::FrAdd
+            | Primitive::FrSub
+            | Primitive::FrMul
+            | Primitive::FrDiv
+            | Primitive::OutLog
+            | Primitive::OutEnd => 4,
+            Primitive::OutComm => 6,
         }
     }
 
@@ -136,23 +136,23 @@ impl Prim {
     {
         matches!(
             self,
-            Prim::FrAdd
-                | Prim::FrSub
-                | Prim::FrMul
-                | Prim::FrDiv
-                | Prim::FrCmp
-                | Prim::FrSign
+            Primitive::FrAdd
+                | Primitive::FrSub
+                | Primitive::FrMul
+                | Primitive::FrDiv
+                | Primitive::FrCmp
+                | Primitive::FrSign
         )
     }
 }
 
 /// The first of a list that is spelled so, if there is one.
-fn among(primitives: &[Prim], word: &[u8]) -> Option<Prim>
-    ensures { result ≡ spec.prim_among primitives.now word.now }
+fn among(primitives: &[Primitive], word: &[u8]) -> Option<Primitive>
+    ensures { result ≡ spec.primitive_among primitives.now word.now }
 {
-    for prim in primitives {
-        if prim.text() == word {
-            return Some(*prim);
+    for one in primitives {
+        if one.text() == word {
+            return Some(*one);
         }
     }
     None
