@@ -1,0 +1,5 @@
+pub mod Fronts
+pub mod Signs
+pub mod Numerals
+pub mod SourceWords
+pub mod Ended
