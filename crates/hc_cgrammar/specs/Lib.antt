@@ -1,0 +1,15 @@
+pub mod Leaves
+pub mod Exprs
+pub mod Stmts
+pub mod Units
+pub mod StmtRoles
+pub mod UnitRoles
+pub mod StmtTrees
+pub mod UnitTrees
+pub mod Limits
+pub mod State
+pub mod Walk
+pub mod Rules
+pub mod Unit
+pub mod Prelude
+pub mod Text

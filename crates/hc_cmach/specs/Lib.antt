@@ -1,0 +1,9 @@
+pub mod State
+pub mod Line
+pub mod Expression
+pub mod Primitive
+pub mod Turn
+pub mod Machine
+pub mod Seeded
+pub mod Laws
+pub mod Pair

@@ -1,0 +1,2 @@
+mod Callees
+mod Added

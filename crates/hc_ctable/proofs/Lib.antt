@@ -1,0 +1,13 @@
+pub mod Tabled
+pub mod Leaves
+pub mod Alike
+pub mod Derive
+pub mod DeriveStmts
+pub mod DeriveUnits
+pub mod Phrase
+pub mod CloseExprs
+pub mod CloseStmts
+pub mod CloseUnits
+pub mod Examples
+pub mod Calm
+pub mod Readable

@@ -1,0 +1,4 @@
+pub mod Symbols
+pub mod Rows
+pub mod Table
+pub mod Language

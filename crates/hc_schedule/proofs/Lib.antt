@@ -1,0 +1,5 @@
+pub mod Reduction
+pub mod ThreadLaws
+pub mod Carried
+pub mod Alone
+pub mod SoloRuns

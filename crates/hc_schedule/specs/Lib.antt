@@ -1,0 +1,4 @@
+pub mod Sections
+pub mod Threads
+pub mod Schedule
+pub mod Solo
