@@ -8,7 +8,7 @@ use Rattle.hc_cmd.specs.Reply.{Reply, Stands, whole, out_failed, err_failed}
 use Rattle.hc_cmd.specs.Refusals.{refused}
 use Rattle.hc_cmd.specs.Calls.{Call, AsksNothing, IsReplyTo, without_source, answered, too_long, Replies, usage, no_memory, unread, replied, IsComplete}
 use Rattle.hc_cmd.proofs.Statuses.{is_done, is_refusal, IsAnswer, does, refuses, not_other, nothing_out}
-use Rattle.hc_cmd.proofs.StandsLemmas.{no_output, whole_without_fault}
+use Rattle.hc_cmd.proofs.StandsLemmas.{counts_kept, no_output, rose_at_4, whole_without_fault}
 
 -- words ask for one thing at most, and what is answered is an answer
 pub record IsWell {R : Type 0} (call : Call R) : Type 0 where
@@ -43,7 +43,7 @@ module _ {R S : Type 0} (call : Call R) (well : IsWell call) (state : S → Sour
   three_tells reply (replied request asked kept is) h = absurd (not_other reply 3 refl refl (reply_answers request reply is) h)
 
   -- no reply has status 4
-  pub never_four : (reply : Reply) → Replies call state words before after reply → reply.status ≢ 4
+  never_four : (reply : Reply) → Replies call state words before after reply → reply.status ≢ 4
   never_four reply (usage none same e) h = cc (status_is reply _ 4 e h)
   never_four reply (no_memory kept e) h = cc (status_is reply _ 4 e h)
   never_four reply (unread request asked read within rose e) h = cc (status_is reply _ 4 e h)
@@ -74,13 +74,13 @@ module _ {R S : Type 0} (call : Call R) (well : IsWell call) (state : S → Sour
 
 module _ {R S O E : Type 0} (call : Call R) (well : IsWell call) (source_state : S → SourceState) (out_state : O → SinkState) (err_state : E → SinkState)
     (words : List (List ℕ)) (source source' : S) (out out' : O) (err err' : E) (status : ℕ) where
-  pub usage_told : (reply : Reply) → Replies call source_state words source source' reply →
+  usage_told : (reply : Reply) → Replies call source_state words source source' reply →
       Stands out_state err_state out out' err err' reply status → status ≡ 2 → AsksNothing call words × (source' ≡ source)
   usage_told reply replies (whole e o r) h = two_tells call well source_state words source source' reply replies (sym e ∙ h)
   usage_told reply replies (out_failed e o r) h = cc (sym e ∙ h)
   usage_told reply replies (err_failed e o r) h = cc (sym e ∙ h)
 
-  pub fault_told : (reply : Reply) → Replies call source_state words source source' reply →
+  fault_told : (reply : Reply) → Replies call source_state words source source' reply →
       Stands out_state err_state out out' err err' reply status → status ≡ 3 → Rose (source_state source).faults (source_state source').faults
   fault_told reply replies (whole e o r) h = three_tells call well source_state words source source' reply replies (sym e ∙ h)
   fault_told reply replies (out_failed e o r) h = cc (sym e ∙ h)
@@ -90,7 +90,7 @@ module _ {R S O E : Type 0} (call : Call R) (well : IsWell call) (source_state :
   of_nothing reply e (inl h) = inl (e ∙ h)
   of_nothing reply e (inr h) = inr (inr (e ∙ h))
 
-  pub nothing_told : (reply : Reply) → Replies call source_state words source source' reply →
+  nothing_told : (reply : Reply) → Replies call source_state words source source' reply →
       Stands out_state err_state out out' err err' reply status → AsksNothing call words → (status ≡ 2) ⊎ (status ≡ 4) ⊎ (status ≡ 5)
   nothing_told reply replies (whole e o r) nothing = of_nothing reply e (nothing_gives call well source_state words source source' reply replies nothing)
   nothing_told reply replies (out_failed e o r) nothing = inr (inl e)
@@ -104,15 +104,15 @@ module _ {R S O E : Type 0} (call : Call R) (well : IsWell call) (source_state :
   finished request reply (inr r) h = inr (reply, r, h.0, h.1, h.2)
 
   -- completeness follows from the reply that stands
-  pub complete : (reply : Reply) → Replies call source_state words source source' reply →
+  told_whole : (reply : Reply) → Replies call source_state words source source' reply →
       Stands out_state err_state out out' err err' reply status →
       IsComplete call source_state out_state err_state words source source' out out' err err' status
-  complete reply replies stands request asked fine out_fine err_fine =
+  told_whole reply replies stands request asked fine out_fine err_fine =
       finished request reply (request_gives call well source_state words source source' request reply replies asked fine)
       (whole_without_fault stands out_fine err_fine)
 
   -- where words in order ask for something, the status isn't 2
-  pub not_refused : (reply : Reply) → Replies call source_state words source source' reply →
+  not_refused : (reply : Reply) → Replies call source_state words source source' reply →
       Stands out_state err_state out out' err err' reply status → (request : R) → call.asks words request → status ≢ 2
   not_refused reply replies stands request asked e = (usage_told reply replies stands e).0 request asked
 
@@ -123,9 +123,36 @@ module _ {R S O E : Type 0} (call : Call R) (well : IsWell call) (source_state :
       no_output stands (λ four. other (sym e ∙ four))
       (λ is. nothing_for_out call well source_state words source source' k not_done reply replies (sym is ∙ e))
 
-  pub output_kept : (reply : Reply) → Replies call source_state words source source' reply →
+  output_kept : (reply : Reply) → Replies call source_state words source source' reply →
       Stands out_state err_state out out' err err' reply status → (status ≡ 1) ⊎ (status ≡ 2) ⊎ (status ≡ 3) ⊎ (status ≡ 5) → out' ≡ out
   output_kept reply replies stands (inl e) = nothing_out_at 1 refl (λ f. cc f) reply replies stands e
   output_kept reply replies stands (inr (inl e)) = nothing_out_at 2 refl (λ f. cc f) reply replies stands e
   output_kept reply replies stands (inr (inr (inl e))) = nothing_out_at 3 refl (λ f. cc f) reply replies stands e
   output_kept reply replies stands (inr (inr (inr e))) = nothing_out_at 5 refl (λ f. cc f) reply replies stands e
+
+-- what a call owes beside its reply
+pub record Owes {R S O E : Type 0} (call : Call R) (source_state : S → SourceState) (out_state : O → SinkState) (err_state : E → SinkState)
+    (words : List (List ℕ)) (source source' : S) (out out' : O) (err err' : E) (status : ℕ) : Type 0 where
+  pub asked : (request : R) → call.asks words request → status ≢ 2
+  pub usage : status ≡ 2 → AsksNothing call words × (source' ≡ source)
+  pub asks_nothing : AsksNothing call words → (status ≡ 2) ⊎ (status ≡ 4) ⊎ (status ≡ 5)
+  pub read_fault : status ≡ 3 → Rose (source_state source).faults (source_state source').faults
+  pub write_fault : status ≡ 4 → Rose (out_state out).faults (out_state out').faults ⊎ Rose (err_state err).faults (err_state err').faults
+  pub counts : status ≢ 4 → ((out_state out').faults ≡ (out_state out).faults) × ((err_state err').faults ≡ (err_state err).faults)
+  pub no_output : (status ≡ 1) ⊎ (status ≡ 2) ⊎ (status ≡ 3) ⊎ (status ≡ 5) → out' ≡ out
+  pub complete : IsComplete call source_state out_state err_state words source source' out out' err err' status
+
+pub owed : {R S O E : Type 0} (call : Call R) → IsWell call → (source_state : S → SourceState) (out_state : O → SinkState) (err_state : E → SinkState)
+    (words : List (List ℕ)) (source source' : S) (out out' : O) (err err' : E) (status : ℕ) (reply : Reply) →
+    Replies call source_state words source source' reply → Stands out_state err_state out out' err err' reply status →
+    Owes call source_state out_state err_state words source source' out out' err err' status
+owed call well source_state out_state err_state words source source' out out' err err' status reply replies stands = record {
+  asked = not_refused call well source_state out_state err_state words source source' out out' err err' status reply replies stands;
+  usage = usage_told call well source_state out_state err_state words source source' out out' err err' status reply replies stands;
+  asks_nothing = nothing_told call well source_state out_state err_state words source source' out out' err err' status reply replies stands;
+  read_fault = fault_told call well source_state out_state err_state words source source' out out' err err' status reply replies stands;
+  write_fault = rose_at_4 stands (never_four call well source_state words source source' reply replies);
+  counts = counts_kept stands;
+  no_output = output_kept call well source_state out_state err_state words source source' out out' err err' status reply replies stands;
+  complete = told_whole call well source_state out_state err_state words source source' out out' err err' status reply replies stands;
+}

@@ -5,9 +5,7 @@ use Rattle.hc_world.specs.Reading.{ReadsAll}
 use Rattle.hc_world.specs.Sinks.{AddsFlushed, IsWhole}
 use Rattle.hc_world.specs.States.{SourceState, SinkState}
 use Rattle.hc_world.specs.Written.{Written}
-use Rattle.hc_words.specs.declared.requests.Request.{Request}
-use Rattle.hc_words.specs.Requests.{Ask}
-use Rattle.hc_cmd.specs.Calls.{Replies, no_memory, replied, without_source, answered}
+use Rattle.hc_cmd.specs.Calls.{Call, AsksNothing, usage, no_memory, unread, replied, without_source, answered, too_long}
 use Rattle.hc_ast.specs.declared.flaw.Flaw.TheVariants as wrong
 use Rattle.hc_ast.specs.declared.tree.Tree.{Tree}
 use Rattle.hc_ast.specs.Source.{IsSource}
@@ -24,14 +22,14 @@ use Rattle.hc_finds.specs.declared.stop.CheckStop.TheVariants as check
 use Rattle.hc_check.specs.Checked as checks
 use Rattle.hc_term.specs.declared.system.System.{System}
 use Rattle.hc_cmd.specs.declared.refusal.Refusal.{Refusal}
-use Rattle.hc_cmd.specs.declared.refusal.Refusal.TheVariants.{Memory, Unparsed, Unexpanded, Unchecked}
+use Rattle.hc_cmd.specs.declared.refusal.Refusal.TheVariants.{Usage, Unread, Memory, TooLong, Unparsed, Unexpanded, Unchecked}
 use Rattle.std.specs.Result.{IsErrAnd}
 use Rattle.hc_limits.specs.Limits.{most_source_bytes}
 use Rattle.hc_cmd.specs.declared.prepared.Prepared.{Prepared}
 use Rattle.hc_cmd.specs.Reply.{Reply}
 use Rattle.hc_cmd.specs.Refusals.{refused}
-use Rattle.hc_cmd.specs.Answers.{OfText, no_source, source, OfTree, unexpanded, unchecked, accepted, OfSource, done, Answers, answering, reads_source}
-use Rattle.hc_cmd.specs.Prepared.{Accepts, FindsTree, Prepares, IsReady, reply_to}
+use Rattle.hc_cmd.specs.Answers.{OfText, no_source, source, OfTree, unexpanded, unchecked, accepted, OfSource, done}
+use Rattle.hc_cmd.specs.Prepared.{Accepts, FindsTree, Prepares, Readies, GivesNone}
 
 -- want of memory, or one of these replies
 abbrev pub MemoryOr : (Reply → Type 0) → Refusal → Type 0
@@ -167,21 +165,37 @@ done_so a b e = ap done e
 
 -- ---- what the words and the source give
 
-module _ {S : Type 0} (state : S → SourceState) (words : List (List ℕ)) (before after : S) where
+module _ {R S : Type 0} (call : Call R) (state : S → SourceState) (words : List (List ℕ)) (before after : S) where
+  -- words that ask for nothing
+  pub usage_readies : AsksNothing call words → after ≡ before → Readies call state words before after (Err Usage)
+  usage_readies none same = (tt, usage none same refl)
+
   -- what the text gives, the source gives
-  pub text_gives : (request : Request) (text : List ℕ) → Ask words request → reads_source request ≡ true → ReadsAll (state before).left (state after).left text → length text ≤ most_source_bytes →
-      (state after).faults ≡ (state before).faults → (r : Result Prepared Refusal) → Prepares (Answers request text) r →
-      MatchResult r (λ p. IsReady p × Replies answering state words before after (reply_to p)) (λ f. Replies answering state words before after (refused f))
-  text_gives request text asked reads all fits kept (Ok p) h = (h.0, replied request asked kept (answered reads text all fits h.1))
-  text_gives request text asked reads all fits kept (Err f) (inl e) = no_memory kept e
-  text_gives request text asked reads all fits kept (Err f) (inr a) = replied request asked kept (answered reads text all fits a)
+  pub text_readies : (request : R) (text : List ℕ) → call.asks words request → call.reads request ≡ true → ReadsAll (state before).left (state after).left text →
+      length text ≤ call.most_of request → (state after).faults ≡ (state before).faults → (r : Result Prepared Refusal) → Prepares (call.answers request text) r →
+      Readies call state words before after r
+  text_readies request text asked reads all fits kept (Ok p) h = (h.0, replied request asked kept (answered reads text all fits h.1))
+  text_readies request text asked reads all fits kept (Err f) (inl e) = (tt, no_memory kept e)
+  text_readies request text asked reads all fits kept (Err f) (inr a) = (tt, replied request asked kept (answered reads text all fits a))
+
+  -- what comes where the source fails, or is too long
+  pub unread_readies : (request : R) → call.asks words request → call.reads request ≡ true → (f : Refusal) →
+      GivesNone state (call.most_of request) before after f → Readies call state words before after (Err f)
+  unread_readies request asked reads Unread h = (tt, unread request asked reads h.0 h.1 refl)
+  unread_readies request asked reads (TooLong n) h =
+      (tt, replied request asked h.1 (too_long reads h.0 (ap (λ (m : ℕ). refused (TooLong m)) h.2)))
+  unread_readies request asked reads Memory h = (tt, no_memory h refl)
+  unread_readies request asked reads Usage h = absurd h
+  unread_readies request asked reads (Unparsed s) h = absurd h
+  unread_readies request asked reads (Unexpanded s) h = absurd h
+  unread_readies request asked reads (Unchecked s) h = absurd h
 
   -- what is given where no source is read
-  pub alone_gives : (request : Request) → Ask words request → reads_source request ≡ false → after ≡ before → (r : Result Prepared Refusal) → Prepares (Answers request []) r →
-      MatchResult r (λ p. IsReady p × Replies answering state words before after (reply_to p)) (λ f. Replies answering state words before after (refused f))
-  alone_gives request asked none same (Ok p) h = (h.0, replied request asked (ap (λ (s : S). (state s).faults) same) (without_source none same h.1))
-  alone_gives request asked none same (Err f) (inl e) = no_memory (ap (λ (s : S). (state s).faults) same) e
-  alone_gives request asked none same (Err f) (inr a) = replied request asked (ap (λ (s : S). (state s).faults) same) (without_source none same a)
+  pub alone_readies : (request : R) → call.asks words request → call.reads request ≡ false → after ≡ before → (r : Result Prepared Refusal) →
+      Prepares (call.answers request []) r → Readies call state words before after r
+  alone_readies request asked none same (Ok p) h = (h.0, replied request asked (ap (λ (s : S). (state s).faults) same) (without_source none same h.1))
+  alone_readies request asked none same (Err f) (inl e) = (tt, no_memory (ap (λ (s : S). (state s).faults) same) e)
+  alone_readies request asked none same (Err f) (inr a) = (tt, replied request asked (ap (λ (s : S). (state s).faults) same) (without_source none same a))
 
 -- ---- sinks that weren't called
 

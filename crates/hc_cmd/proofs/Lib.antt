@@ -3,4 +3,6 @@ pub mod Finding
 pub mod Statuses
 pub mod Calling
 pub mod OneReply
+pub mod RunReplies
 pub mod MadeRuns
+pub mod Reports

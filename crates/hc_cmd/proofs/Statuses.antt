@@ -16,7 +16,7 @@ use Rattle.hc_words.specs.declared.requests.Request.TheVariants.{Check, Print, S
 use Rattle.hc_words.specs.declared.settings.Settings.{Settings}
 use Rattle.hc_cmd.specs.Reply.{Reply}
 use Rattle.hc_cmd.specs.Refusals.{status_of_module_stop, status_of_check_stop}
-use Rattle.hc_cmd.specs.Answers.{OfText, no_source, source, OfTree, unexpanded, unchecked, accepted, Simulates, Answers, status_at}
+use Rattle.hc_cmd.specs.Answers.{OfText, no_source, source, OfTree, unexpanded, unchecked, accepted, OfSource, Simulates, Answers, status_at}
 
 -- what is done ends with one of these
 abbrev pub is_done : ℕ → Bool
@@ -78,7 +78,7 @@ status_is_done Horizon = refl
 status_is_done Limit = refl
 status_is_done (Overflow p) = refl
 
-same_answer : (reply same : Reply) → reply ≡ same → IsAnswer same → IsAnswer reply
+pub same_answer : (reply same : Reply) → reply ≡ same → IsAnswer same → IsAnswer reply
 same_answer reply same e is = subst IsAnswer (sym e) is
 
 text_answers : (G : Tree → Reply → Type 0) (text : List ℕ) (reply : Reply) → ((tree : Tree) → G tree reply → IsAnswer reply) →
@@ -92,13 +92,16 @@ tree_answers G tree reply given (unexpanded s is e) = same_answer reply _ e (ref
 tree_answers G tree reply given (unchecked flat s from is e) = same_answer reply _ e (refuses (unchecked_status s) refl)
 tree_answers G tree reply given (accepted flat system from is g) = given flat system g
 
+-- a source, where what an accepted one gives is an answer
+pub source_answers : (G : Flat → System → Reply → Type 0) (text : List ℕ) (reply : Reply) → ((flat : Flat) (system : System) → G flat system reply → IsAnswer reply) →
+    OfSource G text reply → IsAnswer reply
+source_answers G text reply given a = text_answers (OfTree G) text reply (λ tree. tree_answers G tree reply given) a
+
 simulation_answers : (settings : Settings) (system : System) (reply : Reply) → Simulates settings system reply → IsAnswer reply
 simulation_answers settings system reply s = same_answer reply _ s.stands (does (status_is_done (canonical s.task).stop))
 
 pub is_answer : (request : Request) (text : List ℕ) (reply : Reply) → Answers request text reply → IsAnswer reply
-is_answer Check text reply a = text_answers _ text reply (λ tree. tree_answers _ tree reply (λ flat system e. same_answer reply _ e (does refl))) a
+is_answer Check text reply a = source_answers _ text reply (λ flat system e. same_answer reply _ e (does refl)) a
 is_answer Print text reply a = text_answers _ text reply (λ tree e. same_answer reply _ e (does refl)) a
-is_answer (Simulate settings) text reply a =
-    text_answers _ text reply (λ tree. tree_answers _ tree reply (λ flat system s. simulation_answers settings system reply s)) a
-is_answer (Make made) text reply a =
-    text_answers _ _ reply (λ tree. tree_answers _ tree reply (λ flat system s. same_answer reply _ s.stands (does refl))) a
+is_answer (Simulate settings) text reply a = source_answers _ text reply (λ flat system s. simulation_answers settings system reply s) a
+is_answer (Make made) text reply a = source_answers _ _ reply (λ flat system s. same_answer reply _ s.stands (does refl)) a

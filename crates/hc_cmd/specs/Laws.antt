@@ -1,5 +1,5 @@
 -- What holds of all texts.
-use Rattle.std.specs.Prelude.{◌≡◌, ℕ, List, []}
+use Rattle.std.specs.Prelude.{◌≡◌, ◌+◌, ℕ, List, [], length, min, sum, Some}
 use Rattle.hc_make.specs.Made.{made_text}
 use Rattle.hc_check.specs.Accepted.{IsAccepted}
 use Rattle.hc_term.specs.declared.run.Item.{Item}
@@ -10,13 +10,16 @@ use Rattle.hc_term.specs.declared.task.Task.{Task}
 use Rattle.hc_term.specs.Given.{HasParts}
 use Rattle.hc_term.specs.Stop.{IsBehaviour}
 use Rattle.hc_term.specs.TraceText.{whole}
+use Rattle.hc_runs.specs.Turns.{Turns}
 use Rattle.hc_words.specs.declared.requests.Request.{Request}
 use Rattle.hc_words.specs.declared.requests.Request.TheVariants.{Check, Simulate, Make}
 use Rattle.hc_words.specs.declared.settings.Made.{Made}
+use Rattle.hc_words.specs.declared.settings.RunRequest.{RunRequest}
 use Rattle.hc_words.specs.declared.settings.Settings.{Settings}
 use Rattle.hc_cmd.specs.Reply.{Reply}
 use Rattle.hc_cmd.specs.Made.{IsMadeTask, line_of}
-use Rattle.hc_cmd.specs.Answers.{Answers, done, size_of, status_at}
+use Rattle.hc_cmd.specs.Answers.{Answers, OfSource, done, size_of, status_at}
+use Rattle.hc_cmd.specs.Running.{Runs, report_for}
 
 -- a text has at most one system
 abbrev pub OneAcceptedSystem : Type 0
@@ -62,3 +65,27 @@ abbrev pub MadeIsBehaviour : Type 0
 MadeIsBehaviour =
     (made : Made) (text : List ℕ) (system : System) (reply : Reply) → IsAccepted (made_text made.pairs made.seed) system → Answers (Make made) text reply →
     (task : Task) × IsMadeTask system task × CountsBehaviour made.pairs task reply
+
+-- On output stands the whole text of a behaviour of the task, and the status is that of its stop. On error stand, where they are
+-- asked for, the numbers of its events: there is one for each worker that counts, and with the caller's they add up to the events
+-- of which the behaviour is made.
+pub record RunsBehaviour (asked : RunRequest) (task : Task) (reply : Reply) : Type 0 where
+  pub items : List Item
+  pub end : Configuration
+  pub stop : Stop
+  pub behaviour : IsBehaviour task items end stop
+  pub out : reply.out ≡ whole task.system items end.clock stop
+  pub status : reply.status ≡ status_at stop
+  pub recomputed : ℕ
+  pub turns : List ℕ
+  pub own : ℕ
+  pub workers : length turns ≡ min asked.workers (length task.system.processes)
+  pub events : Turns task (sum turns + own) items end (Some stop)
+  pub err : reply.err ≡ report_for asked.report recomputed turns own
+
+-- The headline of `run`: what it writes of an accepted text is the whole text of a behaviour of its system, with the seed, the
+-- horizon and the limit of the words, and the status is that of the behaviour's stop.
+abbrev pub RunIsBehaviour : Type 0
+RunIsBehaviour =
+    (asked : RunRequest) (text : List ℕ) (system : System) (reply : Reply) → IsAccepted text system → OfSource (λ flat. Runs asked) text reply →
+    (task : Task) × HasParts system asked.settings.seed asked.settings.horizon asked.settings.limit task × RunsBehaviour asked task reply

@@ -1,5 +1,5 @@
 -- What is ready to be written, and how its writing ends.
-use Rattle.std.specs.Prelude.{◌≡◌, ◌⊎◌, ℕ, List, Result, Ok, Err, MatchResult}
+use Rattle.std.specs.Prelude.{◌≡◌, ◌≤◌, ◌⊎◌, ℕ, List, length, IsSome, Result, Ok, Err, MatchResult}
 use Rattle.hc_ast.specs.declared.tree.Tree.{Tree}
 use Rattle.hc_ast.specs.Source.{IsSource}
 use Rattle.hc_modules.specs.declared.flat.Flat.{Flat}
@@ -7,17 +7,21 @@ use Rattle.hc_modules.specs.Refusals.{IsExpansion}
 use Rattle.hc_check.specs.Checked.{IsChecked}
 use Rattle.hc_term.specs.declared.system.System.{System}
 use Rattle.hc_joint.specs.Keeps.{opened}
-use Rattle.hc_world.specs.States.{SinkState}
+use Rattle.hc_world.specs.Counts.{Rose}
+use Rattle.hc_world.specs.Reading.{ReadsAll, ReadsPast, ReadsWithin}
+use Rattle.hc_world.specs.States.{SourceState, SinkState}
 use Rattle.hc_world.specs.Sinks.{IsWhole, IsCut}
 use Rattle.hc_cmd.specs.declared.ending.End.{End}
-use Rattle.hc_cmd.specs.declared.ending.Halt.{Halt}
-use Rattle.hc_cmd.specs.declared.ending.Halt.TheVariants as halt
+use Rattle.hc_cmd.specs.declared.ending.Told.{Told}
+use Rattle.hc_cmd.specs.declared.ending.Told.TheVariants as told
 use Rattle.hc_cmd.specs.declared.refusal.Refusal.{Refusal}
-use Rattle.hc_cmd.specs.declared.refusal.Refusal.TheVariants.{Memory}
+use Rattle.hc_cmd.specs.declared.refusal.Refusal.TheVariants.{Memory, TooLong, Unread}
 use Rattle.hc_cmd.specs.declared.simulation.Simulation.{Simulation}
 use Rattle.hc_cmd.specs.declared.prepared.Prepared.{Prepared}
 use Rattle.hc_cmd.specs.declared.prepared.Prepared.TheVariants as is
 use Rattle.hc_cmd.specs.Reply.{Reply}
+use Rattle.hc_cmd.specs.Calls.{Call, Replies}
+use Rattle.hc_cmd.specs.Running as running
 use Rattle.hc_cmd.specs.Refusals.{refused}
 use Rattle.hc_cmd.specs.Answers.{OfText, OfSource, done, simulated}
 
@@ -25,16 +29,32 @@ use Rattle.hc_cmd.specs.Answers.{OfText, OfSource, done, simulated}
 abbrev pub AtOpening : Simulation → Type 0
 AtOpening s = s.joint ≡ opened s.joint.task
 
+-- the text on error
+abbrev pub bytes_of : Told → List ℕ
+bytes_of (told.Line line) = line.bytes
+bytes_of (told.Report bytes) = bytes.items
+
 -- what is ready lets this stand
 abbrev pub reply_to : Prepared → Reply
 reply_to (is.Simulation s) = simulated s.joint.task
 reply_to (is.Line line) = done line.bytes
 reply_to (is.Spelling bytes) = done bytes.items
+reply_to (is.Run run) = running.told run.joint run.report.items
 
 abbrev pub IsReady : Prepared → Type 0
 IsReady (is.Simulation s) = AtOpening s
 IsReady (is.Line line) = Unit {0}
 IsReady (is.Spelling bytes) = Unit {0}
+IsReady (is.Run run) = IsSome run.joint.stop
+
+-- what is ready, or the refusal, lets this stand
+abbrev pub reply_of : Result Prepared Refusal → Reply
+reply_of (Ok p) = reply_to p
+reply_of (Err r) = refused r
+
+abbrev pub IsSettled : Result Prepared Refusal → Type 0
+IsSettled (Ok p) = IsReady p
+IsSettled (Err r) = Unit {0}
 
 -- ---- what a text has
 
@@ -60,12 +80,28 @@ abbrev pub Prepares : (Reply → Type 0) → Result Prepared Refusal → Type 0
 Prepares Gives result =
     MatchResult result (λ p. IsReady p × Gives (reply_to p)) (λ r. (refused r ≡ refused Memory) ⊎ Gives (refused r))
 
+-- ---- what the words and the source give
+
+-- this is the text of a source
+abbrev pub IsTextOf : {S : Type 0} → (S → SourceState) → S → S → List ℕ → Type 0
+IsTextOf state before after text = ReadsAll (state before).left (state after).left text × ((state after).faults ≡ (state before).faults)
+
+-- there is none within so many bytes, and this is why
+abbrev pub GivesNone : {S : Type 0} → (S → SourceState) → ℕ → S → S → Refusal → Type 0
+GivesNone state most before after Unread = ReadsWithin (state before).left (state after).left most × Rose (state before).faults (state after).faults
+GivesNone state most before after (TooLong n) =
+    ReadsPast (state before).left (state after).left most × ((state after).faults ≡ (state before).faults) × (n ≡ most)
+GivesNone state most before after Memory = (state after).faults ≡ (state before).faults
+GivesNone state most before after _ = ⊥
+
+-- what is ready lets stand, or the refusal is, a reply that the words and the source give
+abbrev pub Readies : {R S : Type 0} → Call R → (S → SourceState) → List (List ℕ) → S → S → Result Prepared Refusal → Type 0
+Readies call state words before after result = IsSettled result × Replies call state words before after (reply_of result)
+
 -- ---- how the writing ends
 
--- at the end its text stands whole, and the status and the line on error are known; at a fault a first part of it stands;
--- where memory is wanted, nothing was written
-abbrev pub Performs : {O : Type 0} → (O → SinkState) → O → O → Reply → Result End Halt → Type 0
+-- at the end its text stands whole, and the status and the text on error are known; at a fault a first part of it stands
+abbrev pub Performs : {O E : Type 0} → (O → SinkState) → O → O → Reply → Result End E → Type 0
 Performs state before after reply (Ok end) =
-    IsWhole state before after reply.out × (end.status ≡ reply.status) × (end.line.bytes ≡ reply.err)
-Performs state before after reply (Err halt.Failed) = IsCut state before after reply.out
-Performs state before after reply (Err halt.Memory) = after ≡ before
+    IsWhole state before after reply.out × (end.status ≡ reply.status) × (bytes_of end.told ≡ reply.err)
+Performs state before after reply (Err e) = IsCut state before after reply.out

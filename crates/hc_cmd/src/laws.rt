@@ -1,6 +1,6 @@
 //! Laws of the definitions.
 
-ghost use Rattle.hc_cmd.specs.Laws.{AcceptedIsSized, MadeIsBehaviour, OneAcceptedSystem, OneAnswer, SimulationIsBehaviour};
+ghost use Rattle.hc_cmd.specs.Laws.{AcceptedIsSized, MadeIsBehaviour, OneAcceptedSystem, OneAnswer, RunIsBehaviour, SimulationIsBehaviour};
 
 use hc_check::system_laws;
 use hc_modules::tree_laws;
@@ -14,6 +14,7 @@ pub fn acceptance_laws()
     ensures sized { AcceptedIsSized }
     ensures simulated { SimulationIsBehaviour }
     ensures made { MadeIsBehaviour }
+    ensures run { RunIsBehaviour }
 {
     text_laws();
     tree_laws();

@@ -8,7 +8,10 @@ mod laws;
 mod making;
 mod prepared;
 mod refusal;
+mod replying;
+mod report;
+mod running;
 mod simulation;
 
-pub use answering::answer;
+pub use answering::{answer, answer_run};
 pub use laws::acceptance_laws;

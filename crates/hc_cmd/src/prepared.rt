@@ -1,27 +1,26 @@
 //! What a call writes on output: all that wants memory first, then the writing.
 
-ghost use Rattle.std.specs.Prelude.{◌≡◌, ◌≤◌, length, IfOk, MatchResult, map};
+ghost use Rattle.std.specs.Prelude.{◌≡◌, ◌≤◌, length, map, MatchResult, vec_len};
 ghost use Rattle.std.specs.String.{string_bytes};
 ghost use Rattle.hc_limits.specs.Limits.{most_source_bytes};
 ghost use Rattle.hc_make.specs.Made.{made_text};
 ghost use Rattle.hc_words.specs.declared.requests.Request.TheVariants as asked;
 ghost use Rattle.hc_cmd.specs.Answers.{Answers, answering, done, OfSource, SumsUp};
 ghost use Rattle.hc_cmd.specs.Answers as spec;
-ghost use Rattle.hc_cmd.specs.Calls.{Replies};
-ghost use Rattle.hc_cmd.specs.Prepared.{reply_to, IsReady, Performs, Prepares};
-ghost use Rattle.hc_cmd.specs.Refusals.{refused};
+ghost use Rattle.hc_cmd.specs.Prepared.{reply_to, GivesNone, IsReady, IsTextOf, Performs, Prepares, Readies};
 
 use crate::accepting::{accepted, size_line, tree_of};
-use crate::ending::{End, Halt};
+use crate::ending::End;
 use crate::making::{made_settings, run_line};
 use crate::refusal::Refusal;
+use crate::running::Run;
 use crate::simulation::Simulation;
 use arrayvec::ArrayString;
 use hc_limits::MOST_SOURCE_BYTES;
 use hc_make::made_source;
 use hc_print::print;
 use hc_words::{Made, Request, Settings, WordsStop, asked_for};
-use hc_world::{ReadStop, Sink, Source, put, read_all};
+use hc_world::{Failed, ReadStop, Sink, Source, put, read_all};
 use std::alloc::Global;
 
 /// What is ready to be written, with all its memory.
@@ -32,6 +31,8 @@ pub enum Prepared {
     Line(ArrayString<128>),
     /// The canonical spelling of a source.
     Spelling(Vec<u8>),
+    /// A run on threads that is over.
+    Run(Run),
 }
 
 /// What is asked for of a text, or why there is nothing to write.
@@ -106,10 +107,7 @@ pub(crate) fn prepare<S: Source>(
     words: &Vec<String>,
     source: &mut S,
 ) -> Result<Prepared, Refusal>
-    ensures reply { MatchResult result
-        (λ p. IsReady p × Replies answering S.state (map string_bytes words.now.items) source.old source.new (reply_to p))
-        (λ r. Replies answering S.state (map string_bytes words.now.items) source.old source.new (refused r)) }
-    ensures kept { IfOk result (λ _. (S.state source.new).faults ≡ (S.state source.old).faults) }
+    ensures { Readies answering S.state (map string_bytes words.now.items) source.old source.new result }
 {
     let request = match asked_for(alloc, words) {
         Ok(request) => request,
@@ -119,18 +117,29 @@ pub(crate) fn prepare<S: Source>(
     if !reads_source(&request) {
         return prepare_text(alloc, request, b"");
     }
-    let text = match read_all(alloc, source, MOST_SOURCE_BYTES) {
-        Ok(text) => text,
-        Err(ReadStop::Failed) => return Err(Refusal::Unread),
-        Err(ReadStop::TooLong) => return Err(Refusal::TooLong(MOST_SOURCE_BYTES)),
-        Err(ReadStop::Memory) => return Err(Refusal::Memory),
-    };
-    prepare_text(alloc, request, text.as_slice())
+    match text_of(alloc, source) {
+        Ok(text) => prepare_text(alloc, request, text.as_slice()),
+        Err(refusal) => Err(refusal),
+    }
+}
+
+/// The text of a source, or why there is none.
+pub(crate) fn text_of<S: Source>(alloc: Global, source: &mut S) -> Result<Vec<u8>, Refusal>
+    ensures { MatchResult result
+        (λ text. IsTextOf S.state source.old source.new text.items × (vec_len text ≤ most_source_bytes))
+        (GivesNone S.state most_source_bytes source.old source.new) }
+{
+    match read_all(alloc, source, MOST_SOURCE_BYTES) {
+        Ok(text) => Ok(text),
+        Err(ReadStop::Failed) => Err(Refusal::Unread),
+        Err(ReadStop::TooLong) => Err(Refusal::TooLong(MOST_SOURCE_BYTES)),
+        Err(ReadStop::Memory) => Err(Refusal::Memory),
+    }
 }
 
 impl Prepared {
     /// Writes all of it, and tells the status and the line on error. It takes no memory.
-    pub(crate) fn perform<O: Sink>(self, out: &mut O) -> Result<End, Halt>
+    pub(crate) fn perform<O: Sink>(self, out: &mut O) -> Result<End, Failed>
         requires { IsReady self }
         ensures { Performs O.state out.old out.new (reply_to self) result }
     {
@@ -138,14 +147,15 @@ impl Prepared {
             Prepared::Simulation(simulation) => simulation.perform(out),
             Prepared::Line(line) => perform_text(line.as_str().as_bytes(), out),
             Prepared::Spelling(bytes) => perform_text(bytes.as_slice(), out),
+            Prepared::Run(run) => run.perform(out),
         }
     }
 }
 
 /// Writes a text with nothing on error.
-fn perform_text<O: Sink>(text: &[u8], out: &mut O) -> Result<End, Halt>
+fn perform_text<O: Sink>(text: &[u8], out: &mut O) -> Result<End, Failed>
     ensures { Performs O.state out.old out.new (done text.now) result }
 {
-    put(out, text).map_err(|_| Halt::Failed)?;
+    put(out, text)?;
     Ok(End::silent(0))
 }

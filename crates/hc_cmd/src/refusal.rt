@@ -1,9 +1,10 @@
 //! Why nothing stands on output.
 
 ghost use Rattle.std.specs.Prelude.{◌≡◌, ◌≤◌, length};
+ghost use Rattle.hc_cmd.specs.Prepared.{bytes_of};
 ghost use Rattle.hc_cmd.specs.Refusals as spec;
 
-use crate::ending::End;
+use crate::ending::{End, Told};
 use arrayvec::ArrayString;
 use hc_check::{CheckStop, What};
 use hc_frac::Place;
@@ -39,11 +40,11 @@ pub enum Refusal {
 impl Refusal {
     /// How a call ends that is refused so. It takes no memory.
     pub(crate) fn end(self) -> End
-        ensures { (result.status ≡ spec.status_of self) × (result.line.bytes ≡ spec.line (spec.message_of self)) }
+        ensures { (result.status ≡ spec.status_of self) × (bytes_of result.told ≡ spec.line (spec.message_of self)) }
     {
         End {
             status: self.status(),
-            line: self.line(),
+            told: Told::Line(self.line()),
         }
     }
 

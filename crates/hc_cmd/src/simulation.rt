@@ -4,12 +4,12 @@ ghost use Rattle.std.specs.Prelude.{◌≡◌, IfOk};
 ghost use Rattle.hc_term.specs.Given.{HasParts};
 ghost use Rattle.hc_cmd.specs.Answers.{simulated, status_at};
 
-use crate::ending::{End, Halt};
+use crate::ending::End;
 use hc_joint::Joint;
 use hc_sim::simulate;
 use hc_term::{Stop, System, Task};
 use hc_words::Settings;
-use hc_world::Sink;
+use hc_world::{Failed, Sink};
 use std::alloc::{AllocError, Global};
 
 /// A simulation with all its memory, at the opening of its task.
@@ -35,24 +35,25 @@ impl Simulation {
     }
 
     /// Runs it to its stop, writes each line when its turn is done, and tells the status. It takes no memory.
-    pub(crate) fn perform<O: Sink>(self, out: &mut O) -> Result<End, Halt>
+    pub(crate) fn perform<O: Sink>(self, out: &mut O) -> Result<End, Failed>
         requires { AtOpening self }
         ensures { Performs O.state out.old out.new (simulated self.joint.task) result }
     {
         let mut joint = self.joint;
-        let stop = simulate(&mut joint, out).map_err(|_| Halt::Failed)?;
+        let stop = simulate(&mut joint, out)?;
         Ok(End::silent(status_of_stop(stop)))
     }
 }
 
 /// The task of simulating the system with these settings.
-fn task_of(settings: Settings, system: System) -> Task
+pub(crate) fn task_of(settings: Settings, system: System) -> Task
     ensures { HasParts system settings.seed settings.horizon settings.limit result }
 {
     Task::new(system, settings.seed, settings.horizon, settings.limit)
 }
 
-fn status_of_stop(stop: Stop) -> u8
+/// The status of a run that ends so.
+pub(crate) fn status_of_stop(stop: Stop) -> u8
     ensures { result ≡ status_at stop }
 {
     match stop {

@@ -1,7 +1,8 @@
 //! The program `hcsp` over standard input, output and error.
 #![tactic(auto)]
 
-use hc_cmd::answer;
+use hc_cmd::{answer, answer_run};
+use hc_run::OpenGate;
 use hc_world::{StdErr, StdOut, StdSource};
 use std::process::ExitCode;
 use std::{env, io};
@@ -35,5 +36,17 @@ fn main(rt: HostRuntime) -> ExitCode {
     let mut source = StdSource::over(rt.stdin());
     let mut out = StdOut::over(rt.stdout());
     let mut err = StdErr::over(rt.stderr());
-    ExitCode::from(answer(rt.alloc(), &words, &mut source, &mut out, &mut err))
+    let status = match words.as_slice() {
+        [_, name, ..] if name.as_str() == "run" => answer_run(
+            &rt,
+            rt.alloc(),
+            &words,
+            &mut source,
+            &mut out,
+            &mut err,
+            &OpenGate,
+        ),
+        _ => answer(rt.alloc(), &words, &mut source, &mut out, &mut err),
+    };
+    ExitCode::from(status)
 }

@@ -1,9 +1,13 @@
 //! Calls of the program over a source and sinks in memory.
 
+use crate::reports::report_shown;
 use crate::worlds::World;
-use hc_cmd::answer;
+use hc_cmd::{answer, answer_run};
+use hc_run::OpenGate;
 use hc_world::{MemSink, MemSource};
 use std::alloc::{AllocError, Global};
+use std::sync::Wait;
+use std::thread::Threads;
 
 /// The words of a call; `''` is the empty word.
 fn words_of(alloc: Global, text: &str) -> Result<Vec<String>, AllocError> {
@@ -25,15 +29,35 @@ pub(crate) fn source_of(alloc: Global, text: &str) -> Result<Vec<u8>, AllocError
     Vec::from_slice(alloc, text.as_bytes())
 }
 
-/// What stands on a sink, with `\n` for each newline.
+/// What stands on a sink, with `\n` for each newline. A report is told by its totals.
 fn shown(alloc: Global, bytes: &[u8]) -> Result<String, AllocError> {
-    str::from_utf8(bytes)
-        .unwrap_or("no text")
-        .replace(alloc, "\n", "\\n")
+    let text = str::from_utf8(bytes).unwrap_or("no text");
+    if text.starts_with("recomputed ") {
+        return report_shown(alloc, text);
+    }
+    text.replace(alloc, "\n", "\\n")
+}
+
+/// Makes the call, on threads where the second word is `run`, and tells the status.
+fn status_of<R: Threads + Wait + Sync>(
+    rt: &R,
+    alloc: Global,
+    words: &Vec<String>,
+    source: &mut MemSource,
+    out: &mut MemSink,
+    err: &mut MemSink,
+) -> u8 {
+    match words.as_slice() {
+        [_, name, ..] if name.as_str() == "run" => {
+            answer_run(rt, alloc, words, source, out, err, &OpenGate)
+        }
+        _ => answer(alloc, words, source, out, err),
+    }
 }
 
 /// Calls the program, and tells `STATUS | OUTPUT | ERROR`.
-pub(crate) fn answer_of(
+pub(crate) fn answer_of<R: Threads + Wait + Sync>(
+    rt: &R,
     alloc: Global,
     words: &str,
     world: &str,
@@ -46,7 +70,7 @@ pub(crate) fn answer_of(
     let mut source = MemSource::open(bytes, world.most.max(1), world.failing_reads);
     let mut out = MemSink::open(alloc, world.room, world.failing_outs)?;
     let mut err = MemSink::open(alloc, 4096, world.failing_errs)?;
-    let status = answer(alloc, &words, &mut source, &mut out, &mut err);
+    let status = status_of(rt, alloc, &words, &mut source, &mut out, &mut err);
     let out = shown(alloc, out.bytes())?;
     let err = shown(alloc, err.bytes())?;
     format!(in alloc; "{status} | {out} | {err}")

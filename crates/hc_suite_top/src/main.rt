@@ -3,17 +3,24 @@
 #![tactic(auto)]
 
 mod calling;
+mod reports;
 mod tracing;
 mod worlds;
 
 use calling::{answer_of, source_of};
 use std::alloc::{AllocError, Global};
 use std::io;
+use std::sync::Wait;
+use std::thread::Threads;
 use tracing::{place_of, trace_of};
 
 /// The answer to a row `WORDS | WORLD | SOURCE`, or `read_trace | | TEXT` or `split_text | | TEXT`. Any other line stands
 /// for itself.
-fn answer_to(alloc: Global, line: &str) -> Result<String, AllocError> {
+fn answer_to<R: Threads + Wait + Sync>(
+    rt: &R,
+    alloc: Global,
+    line: &str,
+) -> Result<String, AllocError> {
     let Some((words, rest)) = line.split_once('|') else {
         return String::from_str(alloc, line);
     };
@@ -23,14 +30,14 @@ fn answer_to(alloc: Global, line: &str) -> Result<String, AllocError> {
     match words.trim() {
         "read_trace" => trace_of(alloc, source_of(alloc, text)?.as_slice()),
         "split_text" => place_of(alloc, source_of(alloc, text)?.as_slice()),
-        _ => answer_of(alloc, words, world, text),
+        _ => answer_of(rt, alloc, words, world, text),
     }
 }
 
 fn main(rt: HostRuntime) -> io::Result<()> {
     for line in rt.lines(rt.alloc()) {
         let line = line?;
-        let answer = answer_to(rt.alloc(), line.as_str())?;
+        let answer = answer_to(&rt, rt.alloc(), line.as_str())?;
         println!(rt; "{answer}")?;
     }
     Ok(())

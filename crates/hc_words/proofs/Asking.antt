@@ -6,17 +6,18 @@ use Rattle.std.specs.Str.{bytes_eq}
 use Rattle.clap.specs.Walk.{Text}
 use Rattle.std.specs.Str.Parse.{digits_value}
 use Rattle.std.proofs.lemmas.Bool.{leb-true}
-use Rattle.hc_limits.specs.Limits.{most_pairs, most_steps}
+use Rattle.hc_limits.specs.Limits.{most_pairs, most_steps, most_workers}
 use Rattle.hc_rational.specs.Words.{Rational, is_positive}
 use Rattle.hc_words.specs.declared.requests.Request.{Request}
 use Rattle.hc_words.specs.declared.requests.WordsStop.{WordsStop}
+use Rattle.hc_words.specs.declared.settings.RunRequest.{RunRequest}
 use Rattle.hc_words.specs.declared.requests.WordsStop.TheVariants.{Usage}
 use Rattle.hc_words.specs.declared.actions.Action.{Action}
 use Rattle.hc_words.specs.declared.actions.Action.TheVariants as act
-use Rattle.hc_words.specs.Actions.{name_of_action, belongs}
-use Rattle.hc_words.specs.Seen.{IsRequested}
+use Rattle.hc_words.specs.Actions.{name_of_action, name_of_run, room_of_run, fits, belongs}
+use Rattle.hc_words.specs.Seen.{IsRequested, IsRunRequested}
 use Rattle.hc_words.specs.Line.{Given, is_taken, given}
-use Rattle.hc_words.specs.Requests.{Ask, Asks, pairs_in, limit_in, IsHorizon}
+use Rattle.hc_words.specs.Requests.{Ask, Asks, IsRun, AskRun, pairs_in, workers_in, limit_in, IsHorizon}
 use Rattle.hc_words.specs.Numbers.{is_digits, number_within}
 use Rattle.hc_words.proofs.Defaults.{hundred_positive}
 
@@ -43,8 +44,26 @@ not_asked words second name g named same is none r asked = none r (record {
   asked = subst (λ h. Asks asked.action h r) (sym is) asked.asked;
 })
 
+-- the same of a run
+pub ask_run : (words : List Text) (second name : Text) (g : Given) (r : RunRequest) → slice_get words 1 ≡ Some second → IsTrue (is_taken words) →
+    name ≡ second → g ≡ given words → IsRunRequested name g r → AskRun words r
+ask_run words second name g r named taken same is asked = record {
+  named = named ∙ ap Some (sym same ∙ asked.named);
+  taken = taken;
+  belonging = subst (λ h. IsTrue (fits room_of_run h)) is asked.belonging;
+  asked = subst (λ h. IsRun h r) is asked.asked;
+}
+
+pub run_not_asked : (words : List Text) (second name : Text) (g : Given) → slice_get words 1 ≡ Some second → name ≡ second → g ≡ given words →
+    ((r : RunRequest) → IsRunRequested name g r → ⊥) → (r : RunRequest) → AskRun words r → ⊥
+run_not_asked words second name g named same is none r asked = none r (record {
+  named = same ∙ some_same second name_of_run (sym named ∙ asked.named);
+  belonging = subst (λ h. IsTrue (fits room_of_run h)) (sym is) asked.belonging;
+  asked = subst (λ h. IsRun h r) (sym is) asked.asked;
+})
+
 -- nothing is found where the answer is that the words ask for nothing
-pub none_found : (o : Option Request) (r : Result Request WordsStop) → is_ok r ≡ is_some o → IsErrOf r Usage → o ≡ None
+pub none_found : {X : Type 0} (o : Option X) (r : Result X WordsStop) → is_ok r ≡ is_some o → IsErrOf r Usage → o ≡ None
 none_found None r same e = refl
 none_found (Some x) (Ok y) same e = absurd (cc e)
 none_found (Some x) (Err y) same e = absurd (cc same)
@@ -108,6 +127,11 @@ within least most n t e = go (is_digits t) (nat_le least (digits_value 10 t)) (n
 pub pairs_within : (o : Option Text) (n : ℕ) → pairs_in o ≡ Some n → (1 ≤ n) × (n ≤ most_pairs)
 pairs_within None n e = cc e
 pairs_within (Some t) n e = within 1 most_pairs n t e
+
+-- so are workers, given or not
+pub workers_within : (o : Option Text) (n : ℕ) → workers_in o ≡ Some n → (1 ≤ n) × (n ≤ most_workers)
+workers_within None n e = let same : 64 ≡ n = cc e in (omega (arith, same), omega (arith, same))
+workers_within (Some t) n e = within 1 most_workers n t e
 
 -- a limit that is given or not is in range
 pub limits : (o : Option Text) (n : ℕ) → limit_in o ≡ Some n → (1 ≤ n) × (n ≤ most_steps)

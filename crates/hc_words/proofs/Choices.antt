@@ -12,10 +12,10 @@ use Rattle.clap.specs.Walk.{Held, Row, Rule, Text, Walk, idle, option, has_row, 
 use Rattle.clap.specs.Lexer.{long_of}
 use Rattle.clap.specs.Simple.{Shape}
 use Rattle.clap.specs.Takes.{turn_passes, walk_passes}
-use Rattle.hc_words.specs.Order.{Setting, number, seed, horizon, limit, name_of, is_number, Choice, words_of, is_other, are_apart}
-use Rattle.hc_words.proofs.Rights.{BeginsPlain}
+use Rattle.hc_words.specs.Order.{Setting, number, seed, horizon, limit, workers, report, name_of, is_number, is_flag, Choice, words_of, IsRight, is_other, are_apart}
+use Rattle.hc_words.proofs.Rights.{BeginsPlain, right_plain}
 use Rattle.hc_words.proofs.Uses.{row_for}
-use Rattle.hc_words.proofs.Steps.{IsOption, IsWord, Reached, put, word_walked, word_passes, word_reached, standing, joined, joined_walked, joined_passes, joined_reached, named, named_walked, named_passes, valued, valued_walked, valued_passes, valued_reached}
+use Rattle.hc_words.proofs.Steps.{IsFlag, IsOption, IsWord, Reached, raised, raised_walked, raised_passes, raised_reached, put, word_walked, word_passes, word_reached, standing, joined, joined_walked, joined_passes, joined_reached, named, named_walked, named_passes, valued, valued_walked, valued_passes, valued_reached}
 
 -- the place of the next word: N is the second that stands by its place
 abbrev pub position_in : List Row → ℕ
@@ -65,30 +65,40 @@ long_alone number = refl
 long_alone seed = refl
 long_alone horizon = refl
 long_alone limit = refl
+long_alone workers = refl
+long_alone report = refl
 
 long_joined : (k : Setting) (v : Text) → long_of (45 ∷ 45 ∷ name_of k ++ 61 ∷ v) ≡ Some (name_of k, Some v)
 long_joined number v = refl
 long_joined seed v = refl
 long_joined horizon v = refl
 long_joined limit v = refl
+long_joined workers v = refl
+long_joined report v = refl
 
 alone_dashes : (k : Setting) → bytes_eq (45 ∷ 45 ∷ name_of k) (45 ∷ 45 ∷ []) ≡ false
 alone_dashes number = refl
 alone_dashes seed = refl
 alone_dashes horizon = refl
 alone_dashes limit = refl
+alone_dashes workers = refl
+alone_dashes report = refl
 
 joined_dashes : (k : Setting) (v : Text) → bytes_eq (45 ∷ 45 ∷ name_of k ++ 61 ∷ v) (45 ∷ 45 ∷ []) ≡ false
 joined_dashes number v = refl
 joined_dashes seed v = refl
 joined_dashes horizon v = refl
 joined_dashes limit v = refl
+joined_dashes workers v = refl
+joined_dashes report v = refl
 
 not_number : (k : Setting) → is_number k ≡ false → bytes_eq (name_of k) (codes "N") ≡ false
 not_number number e = cc e
 not_number seed e = refl
 not_number horizon e = refl
 not_number limit e = refl
+not_number workers e = refl
+not_number report e = refl
 
 -- what is found for a choice
 abbrev pub row_of_choice : Choice → Row
@@ -130,6 +140,22 @@ module _ (s : Shape) (k : Setting) (a : Rule) (o : IsOption s (name_of k) a) (ot
         reached = valued_reached s (name_of k) a o h rows reached none n (x ∷ v);
       }
 
+module _ (s : Shape) (a : Rule) (o : IsFlag s (codes "report") a) (h : Held) (rows : List Row) (n : ℕ) (reached : Reached s h rows)
+    (none : has_row (codes "report") rows ≡ false) (counts : n ≡ position_in rows) where
+  flag_leads : Leads s h n ((45 ∷ 45 ∷ codes "report") ∷ []) (rows ++ row_for (codes "report") (codes "true") ∷ [])
+  flag_leads =
+      let word : Text = 45 ∷ 45 ∷ codes "report" in
+      let walks = raised_walked s (codes "report") a o h rows reached none n word refl refl in
+      let turn = raised_passes s (codes "report") a o h rows reached none n word refl refl in
+      record {
+        place = raised s (codes "report") a o h rows reached none n;
+        position = n;
+        counts = counts ∙ sym (same_position rows (codes "report") (codes "true") refl);
+        walks = walks;
+        passes = λ rest behind. passes_on s (standing h idle n) _ word rest turn walks behind;
+        reached = raised_reached s (codes "report") a o h rows reached none n;
+      }
+
 module _ (s : Shape) (a : Rule) (o : IsWord s 2 (codes "N") a) (h : Held) (rows : List Row) (reached : Reached s h rows)
     (none : has_row (codes "N") rows ≡ false) where
   number_leads : (n : ℕ) (v : Text) → BeginsPlain v → n ≡ position_in rows → Leads s h n (v ∷ []) (rows ++ row_for (codes "N") v ∷ [])
@@ -147,24 +173,25 @@ module _ (s : Shape) (a : Rule) (o : IsWord s 2 (codes "N") a) (h : Held) (rows 
         reached = word_reached s 2 (codes "N") a o h rows reached none (x ∷ v);
       })
 
-module _ (s : Shape) (rule : Setting → Rule) (options : (k : Setting) → is_number k ≡ false → IsOption s (name_of k) (rule k)) (word : IsWord s 2 (codes "N") (rule number)) where
-  option_leads : (k : Setting) (b : Bool) (v : Text) (h : Held) (rows : List Row) (n : ℕ) → is_number k ≡ false → BeginsPlain v → Reached s h rows →
+module _ (s : Shape) (rule : Setting → Rule) (options : (k : Setting) → is_number k ≡ false → is_flag k ≡ false → IsOption s (name_of k) (rule k))
+    (flag : IsFlag s (codes "report") (rule report)) (word : IsWord s 2 (codes "N") (rule number)) where
+  option_leads : (k : Setting) (b : Bool) (v : Text) (h : Held) (rows : List Row) (n : ℕ) → is_number k ≡ false → is_flag k ≡ false → IsRight k v → Reached s h rows →
       has_row (name_of k) rows ≡ false → n ≡ position_in rows →
       Leads s h n (if b then (45 ∷ 45 ∷ name_of k ++ 61 ∷ v) ∷ [] else (45 ∷ 45 ∷ name_of k) ∷ v ∷ []) (rows ++ row_for (name_of k) v ∷ [])
-  option_leads k true v h rows n e plain reached none counts = joined_leads s k (rule k) (options k e) (not_number k e) h rows n reached none counts v
-  option_leads k false v h rows n e plain reached none counts = apart_leads s k (rule k) (options k e) (not_number k e) h rows n reached none counts v plain
+  option_leads k true v h rows n e f right reached none counts = joined_leads s k (rule k) (options k e f) (not_number k e) h rows n reached none counts v
+  option_leads k false v h rows n e f right reached none counts =
+      apart_leads s k (rule k) (options k e f) (not_number k e) h rows n reached none counts v (right_plain k v right)
 
-  pub choice_leads : (c : Choice) (h : Held) (rows : List Row) (n : ℕ) → BeginsPlain c.value → Reached s h rows → has_row (name_of c.setting) rows ≡ false →
-      n ≡ position_in rows → Leads s h n (words_of c) (rows ++ row_of_choice c ∷ [])
-  choice_leads c h rows n plain reached none counts = go c.setting none
-    where
-      go : (k : Setting) → has_row (name_of k) rows ≡ false →
-          Leads s h n (if is_number k then c.value ∷ [] else (if c.is_joined then (45 ∷ 45 ∷ name_of k ++ 61 ∷ c.value) ∷ [] else (45 ∷ 45 ∷ name_of k) ∷ c.value ∷ []))
-          (rows ++ row_for (name_of k) c.value ∷ [])
-      go number none = number_leads s (rule number) word h rows reached none n c.value plain counts
-      go seed none = option_leads seed c.is_joined c.value h rows n refl plain reached none counts
-      go horizon none = option_leads horizon c.is_joined c.value h rows n refl plain reached none counts
-      go limit none = option_leads limit c.is_joined c.value h rows n refl plain reached none counts
+  choice_leads : (k : Setting) (b : Bool) (v : Text) (h : Held) (rows : List Row) (n : ℕ) → IsRight k v → Reached s h rows → has_row (name_of k) rows ≡ false →
+      n ≡ position_in rows → Leads s h n (words_of (record { setting = k; is_joined = b; value = v })) (rows ++ row_for (name_of k) v ∷ [])
+  choice_leads number b v h rows n right reached none counts = number_leads s (rule number) word h rows reached none n v (right_plain number v right) counts
+  choice_leads seed b v h rows n right reached none counts = option_leads seed b v h rows n refl refl right reached none counts
+  choice_leads horizon b v h rows n right reached none counts = option_leads horizon b v h rows n refl refl right reached none counts
+  choice_leads limit b v h rows n right reached none counts = option_leads limit b v h rows n refl refl right reached none counts
+  choice_leads workers b v h rows n right reached none counts = option_leads workers b v h rows n refl refl right reached none counts
+  choice_leads report b v h rows n right reached none counts =
+      subst (λ (t : Text). Leads s h n ((45 ∷ 45 ∷ codes "report") ∷ []) (rows ++ row_for (codes "report") t ∷ [])) (sym right)
+      (flag_leads s (rule report) flag h rows n reached none counts)
 
 -- ---- choices in a row
 
@@ -203,15 +230,17 @@ still_new rows c (d ∷ cs) new other =
     let none = any_push rows (row_of_choice c) (name_of d.setting) (not_true _ here.0) (not_true _ apart.0) in
     and_from _ _ (ap not none) (still_new rows c cs here.1 apart.1)
 
-module _ (s : Shape) (rule : Setting → Rule) (options : (k : Setting) → is_number k ≡ false → IsOption s (name_of k) (rule k)) (word : IsWord s 2 (codes "N") (rule number)) where
-  pub choices_lead : (cs : List Choice) (h : Held) (rows : List Row) (n : ℕ) → All (λ c. BeginsPlain c.value) cs → Reached s h rows →
+module _ (s : Shape) (rule : Setting → Rule) (options : (k : Setting) → is_number k ≡ false → is_flag k ≡ false → IsOption s (name_of k) (rule k))
+    (flag : IsFlag s (codes "report") (rule report)) (word : IsWord s 2 (codes "N") (rule number)) where
+  pub choices_lead : (cs : List Choice) (h : Held) (rows : List Row) (n : ℕ) → All (λ c. IsRight c.setting c.value) cs → Reached s h rows →
       are_new rows cs ≡ true → are_apart cs ≡ true → n ≡ position_in rows → Leads s h n (flat_map words_of cs) (rows ++ map row_of_choice cs)
-  choices_lead [] h rows n plain reached new apart counts =
+  choices_lead [] h rows n right reached new apart counts =
       subst (λ (more : List Row). Leads s h n [] more) (sym (append-nil rows)) (nothing_leads s h n rows reached counts)
-  choices_lead (c ∷ cs) h rows n plain reached new apart counts =
+  choices_lead (c ∷ cs) h rows n right reached new apart counts =
       let here = and_parts (not (has_row (name_of c.setting) rows)) (are_new rows cs) new in
       let others = and_parts (list_all (is_other c) cs) (are_apart cs) apart in
-      let first = choice_leads s rule options word c h rows n (All-head (λ (d : Choice). BeginsPlain d.value) c cs plain) reached (not_true _ here.0) counts in
-      let rest = choices_lead cs first.place (rows ++ row_of_choice c ∷ []) first.position (All-tail (λ (d : Choice). BeginsPlain d.value) c cs plain) first.reached (still_new rows c cs here.1 others.0) others.1 first.counts in
+      let mine = All-head (λ (d : Choice). IsRight d.setting d.value) c cs right in
+      let first = choice_leads s rule options flag word c.setting c.is_joined c.value h rows n mine reached (not_true _ here.0) counts in
+      let rest = choices_lead cs first.place (rows ++ row_of_choice c ∷ []) first.position (All-tail (λ (d : Choice). IsRight d.setting d.value) c cs right) first.reached (still_new rows c cs here.1 others.0) others.1 first.counts in
       subst (λ (more : List Row). Leads s h n (words_of c ++ flat_map words_of cs) more) (append_assoc rows (row_of_choice c ∷ []) (map row_of_choice cs))
       (both_lead s h n (words_of c) (flat_map words_of cs) _ _ first rest)

@@ -1,11 +1,11 @@
 -- Words in order: clap takes them, and they ask for what their choices say.
-use Rattle.std.proofs.Common.{◌≡◌, refl, ap, sym, subst, ◌∙◌, ℕ, ◌==◌, Bool, true, false, not, ◌||◌, List, [], ◌∷◌, ◌++◌, map, Option, Some, None, slice_get}
+use Rattle.std.proofs.Common.{◌≡◌, refl, ap, sym, subst, ◌∙◌, ℕ, ◌==◌, Bool, true, false, not, ◌||◌, if◌then◌else◌, List, [], ◌∷◌, ◌++◌, map, Option, Some, None, slice_get}
 use Rattle.std.specs.Prelude.{codes, flat_map, pos}
 use Rattle.std.specs.List.{All, list_all}
 use Rattle.std.specs.Str.{bytes_eq}
 use Rattle.std.proofs.lemmas.Bool.{and_from}
-use Rattle.std.proofs.lemmas.List.Elements.{All-weaker}
-use Rattle.clap.specs.Walk.{Text, has_row}
+use Rattle.std.proofs.lemmas.List.{append-nil}
+use Rattle.clap.specs.Walk.{Text, Row, first_of, has_row}
 use Rattle.hc_rational.specs.Words.{Rational}
 use Rattle.hc_rational.specs.Rational.{whole}
 use Rattle.hc_words.specs.declared.actions.Action.{Action}
@@ -14,17 +14,18 @@ use Rattle.hc_words.specs.declared.actions.Room.{Room}
 use Rattle.hc_words.specs.declared.requests.Request.{Request}
 use Rattle.hc_words.specs.declared.requests.Request.TheVariants.{Check, Print, Simulate, Make}
 use Rattle.hc_words.specs.declared.settings.Made.{Made}
+use Rattle.hc_words.specs.declared.settings.RunRequest.{RunRequest}
 use Rattle.hc_words.specs.declared.settings.Settings.{Settings}
-use Rattle.hc_words.specs.Actions.{name_of_action, room_of, is_wanted, fits, belongs}
-use Rattle.hc_words.specs.Line.{Given, given, given_in, is_taken}
-use Rattle.hc_words.specs.Order.{Setting, number, seed, horizon, limit, name_of, Choice, words_of, are_apart, IsRight, has, AreInOrder, said, given_by}
-use Rattle.hc_words.specs.Requests.{Ask, Asks, AreSettings, IsMade, IsHorizon, pairs_in, limit_in, seed_in}
-use Rattle.hc_words.proofs.Asking.{pairs_within, limits, positive}
-use Rattle.hc_words.proofs.Rights.{BeginsPlain, right_plain}
+use Rattle.hc_words.specs.Actions.{name_of_action, room_of, name_of_run, room_of_run, is_wanted, allows, fits, belongs}
+use Rattle.hc_words.specs.Line.{Given, given, given_in, is_taken, is_yes}
+use Rattle.hc_words.specs.Order.{Setting, number, seed, horizon, limit, workers, report, name_of, Choice, words_of, are_apart, IsRight, has, StandInOrder, AreInOrder, AreRunInOrder, said, given_by}
+use Rattle.hc_words.specs.Requests.{Ask, Asks, AreSettings, IsMade, IsRun, AskRun, IsHorizon, pairs_in, limit_in, seed_in, workers_in}
+use Rattle.hc_words.proofs.Asking.{pairs_within, workers_within, limits, positive}
+use Rattle.hc_words.proofs.Rights.{BeginsPlain}
 use Rattle.hc_words.proofs.Choices.{Leads, are_new, choices_lead, row_of_choice}
-use Rattle.hc_words.proofs.Options.{shape, rule_at, number_is_word, is_option}
+use Rattle.hc_words.proofs.Options.{shape, rule_at, number_is_word, is_option, report_is_flag}
 use Rattle.hc_words.proofs.Passing.{acting, action_row, action_reached, led_free}
-use Rattle.hc_words.proofs.Values.{IsRightIn, first_said, said_right, said_allowed, led_matches, no_report, not_report, passed_over, report_row}
+use Rattle.hc_words.proofs.Values.{IsRightIn, defaulted, first_said, found_behind, not_said, said_right, said_allowed, led_matches, passed_over, report_row}
 
 -- ---- an action with choices behind it
 
@@ -37,62 +38,88 @@ not_action (c ∷ cs) action = and_from _ _ (go c.setting) (not_action cs action
     go seed = refl
     go horizon = refl
     go limit = refl
-
-not_workers : (k : Setting) → bytes_eq (name_of k) (codes "workers") ≡ false
-not_workers number = refl
-not_workers seed = refl
-not_workers horizon = refl
-not_workers limit = refl
+    go workers = refl
+    go report = refl
 
 not_steps : (k : Setting) → bytes_eq (name_of k) (codes "steps") ≡ false
 not_steps number = refl
 not_steps seed = refl
 not_steps horizon = refl
 not_steps limit = refl
+not_steps workers = refl
+not_steps report = refl
 
--- the rows of an action with choices behind it are what the choices give
-rows_give : (action : Text) (cs : List Choice) → given_in ((action_row action ∷ map row_of_choice cs) ++ report_row ∷ []) ≡ given_by cs
-rows_give action cs =
-    let counted = first_said number cs (report_row ∷ []) refl in
-    let first = first_said seed cs (report_row ∷ []) refl in
-    let second = first_said horizon cs (report_row ∷ []) refl in
-    let third = first_said limit cs (report_row ∷ []) refl in
-    let workers = passed_over (codes "workers") not_workers cs (report_row ∷ []) in
-    let steps = passed_over (codes "steps") not_steps cs (report_row ∷ []) in
-    let report = passed_over (codes "report") not_report cs (report_row ∷ []) in
-    rw (counted, first, second, third, workers, steps, report) refl
+-- the rows of an action with choices behind it, and behind them at most the flag's default, are what the choices give
+module _ (action : Text) (cs : List Choice) where
+  rows_by : (tail : List Row) → first_of (codes "N") tail ≡ None → first_of (codes "seed") tail ≡ None → first_of (codes "horizon") tail ≡ None →
+      first_of (codes "limit") tail ≡ None → first_of (codes "workers") tail ≡ None → first_of (codes "steps") tail ≡ None →
+      is_yes (first_of (codes "report") (map row_of_choice cs ++ tail)) ≡ is_yes (said report cs) →
+      given_in (action_row action ∷ map row_of_choice cs ++ tail) ≡ given_by cs
+  rows_by tail no_number no_seed no_horizon no_limit no_workers no_steps told =
+      let counted = first_said number cs tail no_number in
+      let first = first_said seed cs tail no_seed in
+      let second = first_said horizon cs tail no_horizon in
+      let third = first_said limit cs tail no_limit in
+      let fourth = first_said workers cs tail no_workers in
+      let steps = passed_over (codes "steps") not_steps cs tail ∙ no_steps in
+      rw (counted, first, second, third, fourth, steps, told) refl
+
+  rows_give : given_in (defaulted (action_row action ∷ map row_of_choice cs)) ≡ given_by cs
+  rows_give = go (has_row (codes "report") (map row_of_choice cs)) refl
+    where
+      go : (b : Bool) → has_row (codes "report") (map row_of_choice cs) ≡ b →
+          given_in (if b then action_row action ∷ map row_of_choice cs else ((action_row action ∷ map row_of_choice cs) ++ report_row ∷ [])) ≡ given_by cs
+      go true given =
+          ap (λ (rows : List Row). given_in (action_row action ∷ rows)) (sym (append-nil (map row_of_choice cs)))
+          ∙ rows_by [] refl refl refl refl refl refl (ap is_yes (first_said report cs [] refl))
+      go false none =
+          rows_by (report_row ∷ []) refl refl refl refl refl refl
+          (ap is_yes (found_behind (codes "report") (map row_of_choice cs) (report_row ∷ []) none) ∙ sym (ap is_yes (not_said report cs none)))
 
 module _ (x : ℕ) (v : Text) (e : (x == 45) ≡ false) (cs : List Choice) (right : All (λ c. IsRight c.setting c.value) cs) (apart : are_apart cs ≡ true) where
   led : Leads shape (acting (x ∷ v)) 2 (flat_map words_of cs) (action_row (x ∷ v) ∷ map row_of_choice cs)
   led =
-      choices_lead shape rule_at is_option number_is_word cs (acting (x ∷ v)) (action_row (x ∷ v) ∷ []) 2
-      (All-weaker (λ (c : Choice). IsRight c.setting c.value) (λ (c : Choice). BeginsPlain c.value) (λ c h. right_plain c.setting c.value h) cs right)
+      choices_lead shape rule_at is_option report_is_flag number_is_word cs (acting (x ∷ v)) (action_row (x ∷ v) ∷ []) 2 right
       (action_reached (x ∷ v)) (not_action cs (x ∷ v)) apart refl
 
   word_taken : (name : Text) → is_taken (name ∷ (x ∷ v) ∷ flat_map words_of cs) ≡ true
   word_taken name = led_free name x v (flat_map words_of cs) _ e led
 
   word_given : (name : Text) → given (name ∷ (x ∷ v) ∷ flat_map words_of cs) ≡ given_by cs
-  word_given name = ap given_in (led_matches name x v (flat_map words_of cs) _ e led (no_report (x ∷ v) cs)) ∙ rows_give (x ∷ v) cs
+  word_given name = ap given_in (led_matches name x v (flat_map words_of cs) _ e led) ∙ rows_give (x ∷ v) cs
 
-module _ (cs : List Choice) (right : All (λ c. IsRight c.setting c.value) cs) (apart : are_apart cs ≡ true) (name : Text) where
-  action_taken : (a : Action) → is_taken (name ∷ name_of_action a ∷ flat_map words_of cs) ≡ true
-  action_taken act.Check = word_taken 99 (codes "heck") refl cs right apart name
-  action_taken act.Print = word_taken 112 (codes "rint") refl cs right apart name
-  action_taken act.Simulate = word_taken 115 (codes "imulate") refl cs right apart name
-  action_taken act.Make = word_taken 109 (codes "ake") refl cs right apart name
+-- a name of an action doesn't begin with `-`
+action_plain : (a : Action) → BeginsPlain (name_of_action a)
+action_plain act.Check = refl
+action_plain act.Print = refl
+action_plain act.Simulate = refl
+action_plain act.Make = refl
 
-  action_given : (a : Action) → given (name ∷ name_of_action a ∷ flat_map words_of cs) ≡ given_by cs
-  action_given act.Check = word_given 99 (codes "heck") refl cs right apart name
-  action_given act.Print = word_given 112 (codes "rint") refl cs right apart name
-  action_given act.Simulate = word_given 115 (codes "imulate") refl cs right apart name
-  action_given act.Make = word_given 109 (codes "ake") refl cs right apart name
+-- words in order are taken, they give what their choices give, and there is room for that
+module _ (action : Text) (room : Room) (words : List Text) (order : StandInOrder action room words) where
+  taken_in_order : BeginsPlain action → is_taken words ≡ true
+  taken_in_order plain = ap is_taken order.words_are ∙ go action plain
+    where
+      go : (t : Text) → BeginsPlain t → is_taken (order.name ∷ t ∷ flat_map words_of order.choices) ≡ true
+      go [] begins = absurd begins
+      go (x ∷ v) begins = word_taken x v begins order.choices order.right order.apart order.name
+
+  given_in_order : BeginsPlain action → given words ≡ given_by order.choices
+  given_in_order plain = ap given order.words_are ∙ go action plain
+    where
+      go : (t : Text) → BeginsPlain t → given (order.name ∷ t ∷ flat_map words_of order.choices) ≡ given_by order.choices
+      go [] begins = absurd begins
+      go (x ∷ v) begins = word_given x v begins order.choices order.right order.apart order.name
 
 -- ---- what they ask for
 
 seed_found : (o : Option Text) → IsRightIn seed o → (n : ℕ) × (seed_in o ≡ Some n)
 seed_found None h = (0, refl)
 seed_found (Some t) h = h
+
+workers_found : (o : Option Text) → IsRightIn workers o → (n : ℕ) × (workers_in o ≡ Some n)
+workers_found None h = (64, refl)
+workers_found (Some t) h = h
 
 limit_found : (o : Option Text) → IsRightIn limit o → (n : ℕ) × (limit_in o ≡ Some n)
 limit_found None h = (10000, refl)
@@ -136,29 +163,54 @@ asked_by act.Print cs wanted right = (Print, refl)
 asked_by act.Simulate cs wanted right = let s = settings_found cs right in (Simulate s.0, (s.0, s.1, refl))
 asked_by act.Make cs wanted right = let m = made_found cs wanted right in (Make m.0, (m.0, m.1, refl))
 
--- choices that belong to an action fit its row of the table, where N is among them exactly where it is wanted
+run_found : (cs : List Choice) → All (λ c. IsRight c.setting c.value) cs → (r : RunRequest) × IsRun (given_by cs) r
+run_found cs right =
+    let set = settings_found cs right in
+    let many = workers_found (said workers cs) (said_right workers cs right) in (
+      record { settings = set.0; workers = many.0; report = is_yes (said report cs); few = workers_within (said workers cs) many.0 many.1 },
+      record { set = set.1; workers = many.1; report = refl },
+    )
+
+-- a flag for which there is no room isn't said
+flag_allowed : (room : Bool) (o : Option Text) → allows room o ≡ true → (room || not (is_yes o)) ≡ true
+flag_allowed true o e = refl
+flag_allowed false None e = refl
+flag_allowed false (Some t) e = cc e
+
+-- choices for which there is room fit its row of the table, where N is among them exactly where it is wanted
 fitting : (room : Room) (cs : List Choice) → list_all (λ c. has room c.setting) cs ≡ true → is_wanted room.number (said number cs) ≡ true →
     fits room (given_by cs) ≡ true
 fitting room cs belong wanted =
     and_from _ _ (and_from _ _ (and_from _ _ (and_from _ _ (and_from _ _ (and_from _ _ wanted
-    (said_allowed room seed cs belong)) (said_allowed room horizon cs belong)) (said_allowed room limit cs belong)) refl) refl) (either room.report)
-  where
-    either : (b : Bool) → (b || true) ≡ true
-    either true = refl
-    either false = refl
+    (said_allowed room seed cs belong)) (said_allowed room horizon cs belong)) (said_allowed room limit cs belong))
+    (said_allowed room workers cs belong)) refl) (flag_allowed room.report (said report cs) (said_allowed room report cs belong))
 
-pub in_order_ask : (words : List Text) (order : AreInOrder words) → (r : Request) × Ask words r × Asks order.action (given_by order.choices) r
-in_order_ask words order =
-    let asks = asked_by order.action order.choices order.wanted order.right in
-    let gives : given words ≡ given_by order.choices =
-    ap given order.words_are ∙ action_given order.choices order.right order.apart order.name order.action in (
+pub in_order_ask : (words : List Text) (order : AreInOrder words) → (r : Request) × Ask words r × Asks order.action (given_by order.order.choices) r
+in_order_ask words o =
+    let order = o.order in
+    let asks = asked_by o.action order.choices order.wanted order.right in
+    let gives = given_in_order (name_of_action o.action) (room_of o.action) words order (action_plain o.action) in (
       asks.0,
       record {
-        action = order.action;
+        action = o.action;
         named = ap (λ ws. slice_get ws 1) order.words_are;
-        taken = ap is_taken order.words_are ∙ action_taken order.choices order.right order.apart order.name order.action;
-        belonging = ap (belongs order.action) gives ∙ fitting (room_of order.action) order.choices order.belong order.wanted;
-        asked = subst (λ (g : Given). Asks order.action g asks.0) (sym gives) asks.1;
+        taken = taken_in_order (name_of_action o.action) (room_of o.action) words order (action_plain o.action);
+        belonging = ap (belongs o.action) gives ∙ fitting (room_of o.action) order.choices order.belong order.wanted;
+        asked = subst (λ (g : Given). Asks o.action g asks.0) (sym gives) asks.1;
+      },
+      asks.1,
+    )
+
+pub run_in_order_asks : (words : List Text) (order : AreRunInOrder words) → (r : RunRequest) × AskRun words r × IsRun (given_by order.choices) r
+run_in_order_asks words order =
+    let asks = run_found order.choices order.right in
+    let gives = given_in_order name_of_run room_of_run words order refl in (
+      asks.0,
+      record {
+        named = ap (λ ws. slice_get ws 1) order.words_are;
+        taken = taken_in_order name_of_run room_of_run words order refl;
+        belonging = ap (fits room_of_run) gives ∙ fitting room_of_run order.choices order.belong order.wanted;
+        asked = subst (λ (g : Given). IsRun g asks.0) (sym gives) asks.1;
       },
       asks.1,
     )

@@ -1,15 +1,16 @@
 -- Words ask for one thing at most.
 use denote.Struct.Props.{props}
-use Rattle.std.proofs.Common.{◌≡◌, ◌≤◌, ℕ, List, slice_get, Option, Some, None, IsTrue, sym, ap, subst, ◌∙◌}
-use Rattle.hc_limits.specs.Limits.{most_pairs, most_steps}
+use Rattle.std.proofs.Common.{◌≡◌, ◌≤◌, ℕ, Bool, List, slice_get, Option, Some, None, IsTrue, sym, ap, subst, ◌∙◌}
+use Rattle.hc_limits.specs.Limits.{most_pairs, most_steps, most_workers}
 use Rattle.clap.specs.Walk.{Text}
 use Rattle.hc_rational.specs.Words.{Rational, is_positive}
 use Rattle.hc_words.specs.declared.requests.Request.{Request}
 use Rattle.hc_words.specs.declared.requests.Request.TheVariants.{Simulate, Make}
 use Rattle.hc_words.specs.declared.settings.Made.{Made}
+use Rattle.hc_words.specs.declared.settings.RunRequest.{RunRequest}
 use Rattle.hc_words.specs.declared.settings.Settings.{Settings}
 use Rattle.hc_words.specs.Line.{Given, given}
-use Rattle.hc_words.specs.Requests.{IsHorizon, AreSettings, IsMade, Asks, Ask}
+use Rattle.hc_words.specs.Requests.{IsHorizon, AreSettings, IsMade, Asks, Ask, AskRun}
 use Rattle.hc_words.specs.declared.actions.Action.{Action}
 use Rattle.hc_words.specs.declared.actions.Action.TheVariants as act
 use Rattle.hc_words.specs.Actions.{name_of_action}
@@ -67,6 +68,21 @@ same_made m u pairs seed = by m.pairs m.seed pairs seed m.in_range
 one_made : (g : Given) (m u : Made) → IsMade g m → IsMade g u → m ≡ u
 one_made g m u x y = same_made m u (one_value _ m.pairs u.pairs x.pairs y.pairs) (one_value _ m.seed u.seed x.seed y.seed)
 
+-- that the workers are few is one fact
+one_few : (n : ℕ) (k l : (1 ≤ n) × (n ≤ most_workers)) → k ≡ l
+one_few n = hlevel props
+
+same_run : (r u : RunRequest) → r.settings ≡ u.settings → r.workers ≡ u.workers → r.report ≡ u.report → r ≡ u
+same_run r u settings workers report = by r.settings r.workers r.report settings workers report r.few
+  where
+    by : (s : Settings) (n : ℕ) (b : Bool) → s ≡ u.settings → n ≡ u.workers → b ≡ u.report → (l : (1 ≤ n) × (n ≤ most_workers)) →
+        record { settings = s; workers = n; report = b; few = l } ≡ u
+    by s n b is_settings is_workers is_report =
+        let Same : Settings → ℕ → Bool → Type 0 = λ s n b. (l : (1 ≤ n) × (n ≤ most_workers)) → record { settings = s; workers = n; report = b; few = l } ≡ u in
+        let here : Same u.settings u.workers u.report =
+        λ l. ap (λ l. record { settings = u.settings; workers = u.workers; report = u.report; few = l }) (one_few u.workers l u.few) in
+        subst (λ s. Same s n b) (sym is_settings) (subst (λ n. Same u.settings n b) (sym is_workers) (subst (λ b. Same u.settings u.workers b) (sym is_report) here))
+
 one_asked : (action : Action) (g : Given) (r s : Request) → Asks action g r → Asks action g s → r ≡ s
 one_asked act.Check g r s x y = x ∙ sym y
 one_asked act.Print g r s x y = x ∙ sym y
@@ -78,3 +94,8 @@ one_request words r s x y =
     let name = one_value (slice_get words 1) (name_of_action x.action) (name_of_action y.action) x.named y.named in
     let same : x.action ≡ y.action = one_action x.action y.action name in
     one_asked y.action (given words) r s (subst (λ action. Asks action (given words) r) same x.asked) y.asked
+
+pub one_run : (words : List Text) (r s : RunRequest) → AskRun words r → AskRun words s → r ≡ s
+one_run words r s x y =
+    same_run r s (one_simulation (given words) r.settings s.settings x.asked.set y.asked.set)
+    (one_value _ r.workers s.workers x.asked.workers y.asked.workers) (x.asked.report ∙ sym y.asked.report)

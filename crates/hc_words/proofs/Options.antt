@@ -4,10 +4,10 @@ use Rattle.std.specs.Prelude.{codes}
 use Rattle.clap.specs.Walk.{Rule}
 use Rattle.clap.specs.Simple.{Shape, built, filled, with_index}
 use Rattle.clap.proofs.OnLiterals.{clap_on_literals}
-use Rattle.hc_words.specs.Line.{hcsp, word_rule, option_rule}
-use Rattle.hc_words.specs.Order.{Setting, number, seed, horizon, limit, name_of, is_number}
+use Rattle.hc_words.specs.Line.{hcsp, word_rule, option_rule, flag_rule}
+use Rattle.hc_words.specs.Order.{Setting, number, seed, horizon, limit, workers, report, name_of, is_number, is_flag}
 use Rattle.hc_words.proofs.Uses.{first_use}
-use Rattle.hc_words.proofs.Steps.{IsOption, IsWord}
+use Rattle.hc_words.proofs.Steps.{IsFlag, IsOption, IsWord}
 
 -- the command, as it is built
 unfoldable pub shape : Shape
@@ -20,6 +20,8 @@ rule_at number = with_index 2 (filled (word_rule (codes "N")))
 rule_at seed = filled (option_rule (codes "seed"))
 rule_at horizon = filled (option_rule (codes "horizon"))
 rule_at limit = filled (option_rule (codes "limit"))
+rule_at workers = filled (option_rule (codes "workers"))
+rule_at report = filled (flag_rule (codes "report"))
 
 pub number_is_word : IsWord shape 2 (codes "N") (rule_at number)
 unfolding shape rule_at hcsp clap_on_literals
@@ -74,8 +76,32 @@ limit_is_option = record {
   uses = λ v rows none. first_use (codes "limit") v rows none;
 }
 
-pub is_option : (k : Setting) → is_number k ≡ false → IsOption shape (name_of k) (rule_at k)
-is_option number e = cc e
-is_option seed e = seed_is_option
-is_option horizon e = horizon_is_option
-is_option limit e = limit_is_option
+pub workers_is_option : IsOption shape (codes "workers") (rule_at workers)
+unfolding shape rule_at hcsp clap_on_literals
+workers_is_option = record {
+  by_long = refl;
+  by_id = refl;
+  takes = refl;
+  id = refl;
+  same = refl;
+  most = refl;
+  passes = λ v rows none. rw none refl;
+  uses = λ v rows none. first_use (codes "workers") v rows none;
+}
+
+pub report_is_flag : IsFlag shape (codes "report") (rule_at report)
+unfolding shape rule_at hcsp clap_on_literals
+report_is_flag = record {
+  by_long = refl;
+  takes = refl;
+  passes = λ rows none. rw none refl;
+  uses = λ rows none. first_use (codes "report") (codes "true") rows none;
+}
+
+pub is_option : (k : Setting) → is_number k ≡ false → is_flag k ≡ false → IsOption shape (name_of k) (rule_at k)
+is_option number e f = cc e
+is_option seed e f = seed_is_option
+is_option horizon e f = horizon_is_option
+is_option limit e f = limit_is_option
+is_option workers e f = workers_is_option
+is_option report e f = cc f

@@ -1,5 +1,6 @@
 -- A word by its place, and one word or two of an option with its value: where the walk stands behind it, and that it passes.
 use Rattle.std.proofs.Common.{◌≡◌, refl, ap, ◌∙◌, ℕ, ◌+◌, ◌==◌, Bool, true, false, ◌&&◌, ◌||◌, List, [], ◌∷◌, ◌++◌, Some, None}
+use Rattle.std.specs.Prelude.{codes}
 use Rattle.std.specs.Str.{bytes_eq}
 use Rattle.std.proofs.lemmas.Bool.{and_from}
 use Rattle.clap.specs.Lexer.{long_of}
@@ -22,6 +23,13 @@ pub record IsOption (s : Shape) (name : Text) (a : Rule) : Type 0 where
   pub most : most_values a ≡ 1
   pub passes : (v : Text) (rows : List Row) → has_row name rows ≡ false → use_passes s.args_override_self a (v ∷ []) rows ≡ true
   pub uses : (v : Text) (rows : List Row) → has_row name rows ≡ false → used a (v ∷ []) rows ≡ rows ++ row_for name v ∷ []
+
+-- the argument is a flag
+pub record IsFlag (s : Shape) (name : Text) (a : Rule) : Type 0 where
+  pub by_long : arg_by_long s.rules name ≡ Some a
+  pub takes : takes_values a ≡ false
+  pub passes : (rows : List Row) → has_row name rows ≡ false → use_passes s.args_override_self a [] rows ≡ true
+  pub uses : (rows : List Row) → has_row name rows ≡ false → used a [] rows ≡ rows ++ row_for name (codes "true") ∷ []
 
 -- the argument is the word of this place, alone there
 pub record IsWord (s : Shape) (n : ℕ) (name : Text) (a : Rule) : Type 0 where
@@ -145,4 +153,26 @@ module _ (s : Shape) (name : Text) (a : Rule) (o : IsOption s name a) (h : Held)
   valued_reached v = record {
     settles = rw (o.by_id, reached.rows_are, o.passes v rows none) refl;
     rows_are = rw (o.by_id, reached.rows_are) (o.uses v rows none);
+  }
+
+-- ---- a flag
+
+module _ (s : Shape) (name : Text) (a : Rule) (o : IsFlag s name a) (h : Held) (rows : List Row) (reached : Reached s h rows)
+    (none : has_row name rows ≡ false) (n : ℕ) where
+  abbrev pub raised : Held
+  raised = reacted s.rules a [] h
+
+  pub raised_walked : (word : Text) → bytes_eq word (45 ∷ 45 ∷ []) ≡ false → long_of word ≡ Some (name, None) →
+      walked s.rules [] (standing h idle n) word ≡ standing raised idle n
+  unfolding walked
+  raised_walked word dashes long = rw (dashes, long, o.by_long, o.takes) refl
+
+  pub raised_passes : (word : Text) → bytes_eq word (45 ∷ 45 ∷ []) ≡ false → long_of word ≡ Some (name, None) →
+      turn_passes s [] (standing h idle n) word ≡ true
+  raised_passes word dashes long = rw (dashes, long, o.by_long, o.takes, reached.settles, reached.rows_are, o.passes rows none) refl
+
+  pub raised_reached : Reached s raised (rows ++ row_for name (codes "true") ∷ [])
+  raised_reached = record {
+    settles = refl;
+    rows_are = ap (used a []) reached.rows_are ∙ o.uses rows none;
   }

@@ -1,5 +1,5 @@
 -- An action and choices behind it: the matches are the values of the choices.
-use Rattle.std.proofs.Common.{◌≡◌, refl, ap, subst, ◌∙◌, ℕ, ◌==◌, Bool, true, false, List, [], ◌∷◌, ◌++◌, map, drop, take, Option, Some, None, cond, if◌then◌else◌}
+use Rattle.std.proofs.Common.{◌≡◌, refl, ap, subst, ◌∙◌, ℕ, ◌==◌, Bool, true, false, ◌||◌, List, [], ◌∷◌, ◌++◌, map, drop, take, Option, Some, None, cond, if◌then◌else◌}
 use Rattle.std.specs.Prelude.{codes, find, fold, option_and_then, slice_get}
 use Rattle.std.specs.List.{All, list_all}
 use Rattle.std.specs.Str.{bytes_eq}
@@ -14,12 +14,12 @@ use Rattle.clap.proofs.OnLiterals.{clap_on_literals}
 use Rattle.hc_words.specs.Line.{hcsp, flag_rule}
 use Rattle.hc_words.specs.declared.actions.Room.{Room}
 use Rattle.hc_words.specs.Actions.{allows}
-use Rattle.hc_words.specs.Order.{Setting, number, seed, horizon, limit, name_of, Choice, IsRight, has, said}
+use Rattle.hc_words.specs.Order.{Setting, number, seed, horizon, limit, workers, report, name_of, Choice, IsRight, has, said}
 use Rattle.hc_words.proofs.Uses.{first_values}
 use Rattle.hc_words.proofs.Steps.{Reached}
 use Rattle.hc_words.proofs.Choices.{Leads, row_of_choice}
 use Rattle.hc_words.proofs.Options.{shape}
-use Rattle.hc_words.proofs.Passing.{acting, action_row, all_walked}
+use Rattle.hc_words.proofs.Passing.{acting, all_walked}
 
 -- ---- defaults: the flag alone has one
 
@@ -66,23 +66,30 @@ none_behind : list_all (λ (a : Rule). is_none a.defaults) (drop 8 shape.rules) 
 unfolding shape hcsp clap_on_literals
 none_behind = refl
 
-flag_default : (rows : List Row) → has_row (codes "report") rows ≡ false → with_default rows report_rule ≡ rows ++ report_row ∷ []
-unfolding report_rule
-flag_default rows none = rw none (first_values (codes "report") reading.AsWritten DefaultValue (codes "false" ∷ []) rows none)
+-- the rows with the flag's default behind them, where it isn't given
+abbrev pub defaulted : List Row → List Row
+defaulted rows = if has_row (codes "report") rows then rows else rows ++ report_row ∷ []
 
-all_defaults : (rows : List Row) → has_row (codes "report") rows ≡ false → fold with_default rows shape.rules ≡ rows ++ report_row ∷ []
-all_defaults rows none =
+flag_default : (rows : List Row) → with_default rows report_rule ≡ defaulted rows
+unfolding report_rule
+flag_default rows = go (has_row (codes "report") rows) refl
+  where
+    go : (b : Bool) → has_row (codes "report") rows ≡ b → with_default rows report_rule ≡ defaulted rows
+    go true given = rw given refl
+    go false none = rw none (first_values (codes "report") reading.AsWritten DefaultValue (codes "false" ∷ []) rows none)
+
+all_defaults : (rows : List Row) → fold with_default rows shape.rules ≡ defaulted rows
+all_defaults rows =
     ap (fold with_default rows) rules_are
     ∙ fold-append with_default rows (take 7 shape.rules) (report_rule ∷ drop 8 shape.rules)
     ∙ ap (λ more. fold with_default more (report_rule ∷ drop 8 shape.rules)) (no_defaults (take 7 shape.rules) rows none_before)
-    ∙ ap (λ more. fold with_default more (drop 8 shape.rules)) (flag_default rows none)
-    ∙ no_defaults (drop 8 shape.rules) (rows ++ report_row ∷ []) none_behind
+    ∙ ap (λ more. fold with_default more (drop 8 shape.rules)) (flag_default rows)
+    ∙ no_defaults (drop 8 shape.rules) (defaulted rows) none_behind
 
 -- ---- the matches
 
-rows_finished : (place : Held) (rows : List Row) → Reached shape place rows → has_row (codes "report") rows ≡ false →
-    finished shape.rules place ≡ rows ++ report_row ∷ []
-rows_finished place rows reached none = ap (λ more. fold with_default more shape.rules) reached.rows_are ∙ all_defaults rows none
+rows_finished : (place : Held) (rows : List Row) → Reached shape place rows → finished shape.rules place ≡ defaulted rows
+rows_finished place rows reached = ap (λ more. fold with_default more shape.rules) reached.rows_are ∙ all_defaults rows
 
 no_names : names_of (built hcsp) ≡ []
 unfolding hcsp
@@ -93,16 +100,12 @@ unfolding shape hcsp
 matches_are name words = refl
 
 pub led_matches : (name : Text) (x : ℕ) (v : Text) (words : List Text) (rows : List Row) → (x == 45) ≡ false → Leads shape (acting (x ∷ v)) 2 words rows →
-    has_row (codes "report") rows ≡ false → matches_of hcsp (name ∷ (x ∷ v) ∷ words) ≡ rows ++ report_row ∷ []
-led_matches name x v words rows e led none =
+    matches_of hcsp (name ∷ (x ∷ v) ∷ words) ≡ defaulted rows
+led_matches name x v words rows e led =
     matches_are name ((x ∷ v) ∷ words) ∙ ap (λ (w : Walk). finished shape.rules w.held) (all_walked x v words rows e led)
-    ∙ rows_finished led.place rows led.reached none
+    ∙ rows_finished led.place rows led.reached
 
 -- ---- the values of choices
-
-no_row_of : (id : Text) → ((k : Setting) → bytes_eq (name_of k) id ≡ false) → (cs : List Choice) → has_row id (map row_of_choice cs) ≡ false
-no_row_of id other [] = refl
-no_row_of id other (c ∷ cs) = rw (other c.setting) (no_row_of id other cs)
 
 pub passed_over : (id : Text) → ((k : Setting) → bytes_eq (name_of k) id ≡ false) → (cs : List Choice) (tail : List Row) →
     first_of id (map row_of_choice cs ++ tail) ≡ first_of id tail
@@ -115,18 +118,38 @@ same_setting number number e = refl
 same_setting number seed e = cc e
 same_setting number horizon e = cc e
 same_setting number limit e = cc e
+same_setting number workers e = cc e
+same_setting number report e = cc e
 same_setting seed number e = cc e
 same_setting seed seed e = refl
 same_setting seed horizon e = cc e
 same_setting seed limit e = cc e
+same_setting seed workers e = cc e
+same_setting seed report e = cc e
 same_setting horizon number e = cc e
 same_setting horizon seed e = cc e
 same_setting horizon horizon e = refl
 same_setting horizon limit e = cc e
+same_setting horizon workers e = cc e
+same_setting horizon report e = cc e
 same_setting limit number e = cc e
 same_setting limit seed e = cc e
 same_setting limit horizon e = cc e
 same_setting limit limit e = refl
+same_setting limit workers e = cc e
+same_setting limit report e = cc e
+same_setting workers number e = cc e
+same_setting workers seed e = cc e
+same_setting workers horizon e = cc e
+same_setting workers limit e = cc e
+same_setting workers workers e = refl
+same_setting workers report e = cc e
+same_setting report number e = cc e
+same_setting report seed e = cc e
+same_setting report horizon e = cc e
+same_setting report limit e = cc e
+same_setting report workers e = cc e
+same_setting report report e = refl
 
 -- the value of a setting that is found is the one that is said
 pub first_said : (k : Setting) (cs : List Choice) (tail : List Row) → first_of (name_of k) tail ≡ None →
@@ -139,6 +162,26 @@ first_said k (c ∷ cs) tail none = go (bytes_eq (name_of c.setting) (name_of k)
         ≡ (if b then Some c.value else said k cs)
     go true rest same = refl
     go false rest same = same
+
+-- a setting of which no row is found isn't said
+pub not_said : (k : Setting) (cs : List Choice) → has_row (name_of k) (map row_of_choice cs) ≡ false → said k cs ≡ None
+not_said k [] none = refl
+not_said k (c ∷ cs) none = go (bytes_eq (name_of c.setting) (name_of k)) (not_said k cs) none
+  where
+    go : (b : Bool) → (has_row (name_of k) (map row_of_choice cs) ≡ false → said k cs ≡ None) → (b || has_row (name_of k) (map row_of_choice cs)) ≡ false →
+        (if b then Some c.value else said k cs) ≡ None
+    go true same e = cc e
+    go false same e = same e
+
+-- where no row is found the value is found behind
+pub found_behind : (id : Text) (rows tail : List Row) → has_row id rows ≡ false → first_of id (rows ++ tail) ≡ first_of id tail
+found_behind id [] tail none = refl
+found_behind id (r ∷ rows) tail none = go (bytes_eq r.id id) (found_behind id rows tail) none
+  where
+    go : (b : Bool) → (has_row id rows ≡ false → first_of id (rows ++ tail) ≡ first_of id tail) → (b || has_row id rows) ≡ false →
+        option_and_then (λ (r : Row). slice_get r.values 0) (cond b (Some r) (find (λ r. bytes_eq r.id id) (rows ++ tail))) ≡ first_of id tail
+    go true same e = cc e
+    go false same e = same e
 
 -- a value that is said is right
 abbrev pub IsRightIn : Setting → Option Text → Type 0
@@ -167,12 +210,3 @@ said_allowed room k (c ∷ cs) belong =
         allows (has room k) (if b then Some c.value else said k cs) ≡ true
     go true e here rest = subst (λ j. has room j ≡ true) (same_setting c.setting k e) here
     go false e here rest = rest
-
-pub not_report : (k : Setting) → bytes_eq (name_of k) (codes "report") ≡ false
-not_report number = refl
-not_report seed = refl
-not_report horizon = refl
-not_report limit = refl
-
-pub no_report : (action : Text) (cs : List Choice) → has_row (codes "report") (action_row action ∷ map row_of_choice cs) ≡ false
-no_report action cs = no_row_of (codes "report") not_report cs

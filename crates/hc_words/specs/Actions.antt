@@ -22,6 +22,13 @@ room_of Print = nothing
 room_of Simulate = record nothing { seed = true; horizon = true; limit = true }
 room_of Make = record nothing { number = true; seed = true }
 
+-- the one action of the call that runs on threads, and its row
+abbrev pub name_of_run : Text
+name_of_run = codes "run"
+
+abbrev pub room_of_run : Room
+room_of_run = record nothing { seed = true; horizon = true; limit = true; workers = true; report = true }
+
 -- N is given exactly where it's wanted
 abbrev pub is_wanted : Bool → Option Text → Bool
 is_wanted wanted None = not wanted

@@ -1,6 +1,6 @@
 -- What the words of a call ask for.
 use Rattle.std.specs.Prelude.{◌≡◌, ℕ, List, Option, Some, None, pos, slice_get, IsTrue}
-use Rattle.hc_limits.specs.Limits.{most_pairs, most_steps, default_steps, default_horizon}
+use Rattle.hc_limits.specs.Limits.{most_pairs, most_steps, most_workers, default_steps, default_horizon}
 use Rattle.clap.specs.Walk.{Text}
 use Rattle.hc_rational.specs.Words.{Rational, is_positive}
 use Rattle.hc_rational.specs.Rational.{whole}
@@ -9,8 +9,9 @@ use Rattle.hc_words.specs.declared.actions.Action.TheVariants as act
 use Rattle.hc_words.specs.declared.requests.Request.{Request}
 use Rattle.hc_words.specs.declared.requests.Request.TheVariants.{Check, Print, Simulate, Make}
 use Rattle.hc_words.specs.declared.settings.Made.{Made}
+use Rattle.hc_words.specs.declared.settings.RunRequest.{RunRequest}
 use Rattle.hc_words.specs.declared.settings.Settings.{Settings}
-use Rattle.hc_words.specs.Actions.{name_of_action, belongs}
+use Rattle.hc_words.specs.Actions.{name_of_action, name_of_run, room_of_run, fits, belongs}
 use Rattle.hc_words.specs.Line.{Given, is_taken, given}
 use Rattle.hc_words.specs.Numbers.{number_within, IsFractionText}
 
@@ -59,3 +60,21 @@ pub record Ask (words : List Text) (request : Request) : Type 0 where
   pub taken : IsTrue (is_taken words)
   pub belonging : IsTrue (belongs action (given words))
   pub asked : Asks action (given words) request
+
+-- the workers: where they aren't given, as many as there can be processes; and 1 to 64
+abbrev pub workers_in : Option Text → Option ℕ
+workers_in None = Some most_workers
+workers_in (Some t) = number_within 1 most_workers t
+
+-- this is the run on threads that is to be made
+pub record IsRun (g : Given) (r : RunRequest) : Type 0 where
+  pub set : AreSettings g r.settings
+  pub workers : workers_in g.workers ≡ Some r.workers
+  pub report : r.report ≡ g.report
+
+-- the words ask for this run: clap takes them, and behind the program's name stands `run` with what belongs to it
+pub record AskRun (words : List Text) (request : RunRequest) : Type 0 where
+  pub named : slice_get words 1 ≡ Some name_of_run
+  pub taken : IsTrue (is_taken words)
+  pub belonging : IsTrue (fits room_of_run (given words))
+  pub asked : IsRun (given words) request

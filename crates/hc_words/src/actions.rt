@@ -38,6 +38,16 @@ const NOTHING: Room = Room {
     report: false,
 };
 
+/// What stands behind `run`.
+pub(crate) const RUN: Room = Room {
+    seed: true,
+    horizon: true,
+    limit: true,
+    workers: true,
+    report: true,
+    ..NOTHING
+};
+
 /// The action of this name.
 pub(crate) fn action_named(name: &str) -> Option<Action>
     ensures some { IfSome result (λ a. spec.name_of_action a ≡ name.now) }
@@ -92,11 +102,10 @@ fn allows(room: bool, value: Option<&str>) -> bool
     }
 }
 
-/// Whether all that is given belongs to the action, and N is given exactly where it must be.
-pub(crate) fn belongs(action: Action, given: &Given<'_>) -> bool
-    ensures { result ≡ spec.belongs action (seen given.now) }
+/// Whether there is room for all that is given, and N is given exactly where it must be.
+pub(crate) fn fits(room: Room, given: &Given<'_>) -> bool
+    ensures { result ≡ spec.fits room (seen given.now) }
 {
-    let room = room_of(action);
     is_wanted(room.number, given.number)
         & allows(room.seed, given.seed)
         & allows(room.horizon, given.horizon)
@@ -104,4 +113,11 @@ pub(crate) fn belongs(action: Action, given: &Given<'_>) -> bool
         & allows(room.workers, given.workers)
         & allows(room.steps, given.steps)
         & (room.report | !given.report)
+}
+
+/// Whether all that is given belongs to the action.
+pub(crate) fn belongs(action: Action, given: &Given<'_>) -> bool
+    ensures { result ≡ spec.belongs action (seen given.now) }
+{
+    fits(room_of(action), given)
 }

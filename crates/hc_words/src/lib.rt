@@ -6,8 +6,10 @@ mod laws;
 mod line;
 mod numbers;
 mod requests;
+mod running;
 mod settings;
 
 pub use laws::call_laws;
 pub use requests::{Request, WordsStop, asked_for};
-pub use settings::{Made, Settings};
+pub use running::asked_to_run;
+pub use settings::{Made, RunRequest, Settings};

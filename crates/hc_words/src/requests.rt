@@ -85,7 +85,7 @@ fn request_by(action: Action, given: &Given<'_>) -> Option<Request>
 }
 
 /// The settings that are given, each where it isn't its own default.
-fn settings_of(given: &Given<'_>) -> Option<Settings>
+pub(crate) fn settings_of(given: &Given<'_>) -> Option<Settings>
     ensures some { IfSome result (spec.AreSettings (seen given.now)) }
     ensures none { result ≡ None → (s : set.Settings) → spec.AreSettings (seen given.now) s → ⊥ }
 {

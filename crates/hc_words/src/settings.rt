@@ -1,7 +1,7 @@
 //! What requests set.
 
 ghost use Rattle.std.specs.Prelude.{◌≤◌, IsTrue};
-ghost use Rattle.hc_limits.specs.Limits.{most_pairs, most_steps};
+ghost use Rattle.hc_limits.specs.Limits.{most_pairs, most_steps, most_workers};
 ghost use Rattle.hc_rational.specs.Words.{is_positive};
 
 use hc_frac::Frac;
@@ -27,4 +27,15 @@ pub struct Made {
     /// It draws what varies in the source.
     pub seed: u64,
     pub ghost in_range: { (1 ≤ pairs) × (pairs ≤ most_pairs) },
+}
+
+/// A run on threads.
+#[derive(Clone, Copy, Debug, PartialEq, Eq)]
+pub struct RunRequest {
+    pub settings: Settings,
+    /// The threads among which the processes are shared, 1 to 64; more than there are processes count as that many.
+    pub workers: u32,
+    /// Whether the numbers of turns are told.
+    pub report: bool,
+    pub ghost few: { (1 ≤ workers) × (workers ≤ most_workers) },
 }

@@ -4,6 +4,7 @@ use Rattle.hc_modules.specs.declared.flat.Flat.{Flat}
 use Rattle.hc_modules.specs.Refusals.{IsExpansion}
 use Rattle.hc_check.specs.Checked.{IsChecked}
 use Rattle.hc_cmd.proofs.OneReply.{Decided, one_answer, text_accepted, simulation_tells, made_tells}
+use Rattle.hc_cmd.proofs.RunReplies.{run_tells}
 use Rattle.hc_cmd.proofs.laws.acceptance_laws.Goals as goal
 
 pub returns : goal.returns
@@ -31,4 +32,5 @@ returns c =
           simulation_tells c.step_laws.ensures.canonical settings system reply (text_accepted decided _ text system reply accepted a);
       made = λ made text system reply accepted a.
           made_tells c.step_laws.ensures.canonical made system reply (text_accepted decided _ _ system reply accepted a);
+      run = λ asked text system reply accepted a. run_tells asked system reply (text_accepted decided _ text system reply accepted a);
     }

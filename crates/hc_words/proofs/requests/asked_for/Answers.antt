@@ -1,6 +1,4 @@
-use Rattle.std.proofs.Common.{◌≡◌, Option, Some, None}
 use Rattle.std.specs.String.{string_bytes}
-use Rattle.hc_words.specs.declared.requests.Request.{Request}
 use Rattle.hc_words.proofs.Asking.{not_asked, none_found, second_word}
 use Rattle.hc_words.proofs.requests.asked_for.Goals as goal
 

@@ -1,0 +1,9 @@
+pub mod Built
+pub mod BuiltStmts
+pub mod BuiltUnits
+pub mod Accepting
+pub mod Answered
+pub mod OneAnswer
+pub mod Fronts
+pub mod TextAnswered
+pub mod OneText
