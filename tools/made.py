@@ -2,8 +2,11 @@
 """Writes a made source: pairs of processes, as the README of `hc_make` says them, with the rates that a seed draws.
 
 Usage: tools/made.py PAIRS SEED [--row]. With --row it is written as a row of `hc_suite_front`.
+       tools/made.py --check PROGRAM. Compares with what `hc_make` makes, through the program of `hc_suite_front`: all numbers
+       of pairs from 1 to 32 with the seeds 0 to 9. The status is 1 where one differs.
 Written from the text alone: it shares nothing with `hc_make`, whose rows it gives.
 """
+import subprocess
 import sys
 
 RATES = [1, 2, 3, 4, 6, 8]
@@ -32,13 +35,24 @@ def made(pairs, seed):
     return "system\n" + " ||\n".join(processes) + "\nendsystem\n"
 
 
+def row(pairs, seed):
+    return f"made | {pairs} {seed} ~ " + made(pairs, seed).replace("\n", "\\n") + "\n"
+
+
+def check(program):
+    cases = [(pairs, seed) for pairs in range(1, 33) for seed in range(10)]
+    rows = "".join(row(pairs, seed) for pairs, seed in cases)
+    answers = subprocess.run([program], input=rows, capture_output=True, text=True, check=True).stdout.splitlines()
+    differ = [case for case, answer in zip(cases, answers, strict=True) if answer != "as given"]
+    print(f"{len(cases)} made sources, {len(differ)} differ", *differ)
+    return 1 if differ else 0
+
+
 def main():
+    if sys.argv[1] == "--check":
+        sys.exit(check(sys.argv[2]))
     pairs, seed = int(sys.argv[1]), int(sys.argv[2])
-    text = made(pairs, seed)
-    if "--row" in sys.argv:
-        print(f"made | {pairs} {seed} ~ " + text.replace("\n", "\\n"))
-    else:
-        sys.stdout.write(text)
+    sys.stdout.write(row(pairs, seed) if "--row" in sys.argv else made(pairs, seed))
 
 
 if __name__ == "__main__":

@@ -10,7 +10,7 @@ use Rattle.hc_term.specs.Process.{is_due}
 use Rattle.hc_term.specs.Moved.{less_by, moved_post}
 use Rattle.hc_board.specs.declared.deadlines.Deadline.{Deadline}
 use Rattle.hc_board.specs.MeetingBoard.{shown}
-use Rattle.hc_board.specs.Deadlines.{IsSet, AreDeadlinesOf}
+use Rattle.hc_board.specs.Deadlines.{HasDue, IsSet, AreDeadlinesOf}
 use Rattle.hc_board.proofs.IndexOf.{always}
 
 -- all are going
@@ -26,6 +26,13 @@ none_due n = record {
     λ e. let none : None ≡ Some d.due = sym (ap (λ (p : Post). p.due) (always n d.process going_post)) ∙ e in absurd (cc),
   );
 }
+
+-- a process has the deadline that its post says
+pub has_due : (ds : List Deadline) (ps : List Post) (p : ℕ) (d : Post) → p < length ps → AreDeadlinesOf ds ps → HasDue p (get_or ps p d).due ds
+has_due ds ps p d there t q =
+    let same : (shown ps p).due ≡ (get_or ps p d).due = ap (λ (x : Post). x.due) (get_or_default ps p going_post d there) in
+    let each = t.each (record { process = p; due = q }) in
+    (λ c. sym same ∙ each.0 c, λ e. each.1 (same ∙ e))
 
 module _ (ds : List Deadline) (ps : List Post) (p : ℕ) (q : Post) (there : p < length ps) (t : AreDeadlinesOf ds ps) where
   -- the new post has the due that is set

@@ -1,5 +1,5 @@
 -- The deadlines when that of one process is set: where it belongs, and what stands in the list then.
-use Rattle.std.proofs.Common.{◌≡◌, ◌≢◌, ◌<◌, ◌≤◌, ◌⊎◌, ◌↔◌, ℕ, Bool, true, false, IsTrue, List, length, get_or, insert, remove, AllPairs, Contains, Option, Some, None, refl, sym, ap, subst, ◌∙◌, inl, inr, arith}
+use Rattle.std.proofs.Common.{◌≡◌, ◌≢◌, ◌<◌, ◌≤◌, ◌⊎◌, ◌↔◌, ℕ, Bool, true, false, is_some, IsTrue, List, length, get_or, insert, remove, AllPairs, Contains, Option, Some, None, refl, sym, ap, subst, ◌∙◌, inl, inr, arith}
 use Rattle.std.specs.List.{AllWithin}
 use Rattle.std.specs.declared.cmp.Ordering.{Ordering}
 use Rattle.std.specs.declared.cmp.Ordering.TheVariants.{Less, Equal, Greater}
@@ -14,7 +14,7 @@ use Rattle.hc_rational.specs.Words.{Rational, ◌<ℚ◌, rank, zero_ℚ}
 use Rattle.hc_rational.proofs.OrderLaws.{<ℚ_irrefl, <ℚ_trans}
 use Rattle.hc_rational.proofs.RankLaws.{rank_matches, rank_is}
 use Rattle.hc_board.specs.declared.deadlines.Deadline.{Deadline}
-use Rattle.hc_board.specs.Deadlines.{IsBefore, AreApart, AreInOrder, IsPlaceOf, HasNone, IsPlaceFor, IsSet}
+use Rattle.hc_board.specs.Deadlines.{IsBefore, AreApart, AreInOrder, IsPlaceOf, HasNone, HasDue, IsPlaceFor, IsSet}
 use Rattle.hc_board.proofs.Edited.{stood, all_remove, all_insert, pairs_insert, contains_insert, contains_inserted, differ, room}
 
 -- ---- the order
@@ -165,12 +165,24 @@ module _ (ds : List Deadline) (kept : AreInOrder ds) where
 
 -- ---- one after the other
 
-pub none_left : (p : ℕ) (old new : List Deadline) → IsSet p None old new → HasNone p new
-none_left p old new s k d within is =
-    let found : None ≡ Some (get_or new k d).due =
-    (s.here (get_or new k d).due).0
-    (subst (λ (n : ℕ). Contains new (record { process = n; due = (get_or new k d).due })) is (Contains-get_or new k d within)) in
+pub none_there : (p : ℕ) (ds : List Deadline) → HasDue p None ds → HasNone p ds
+none_there p ds h k d within is =
+    let found : None ≡ Some (get_or ds k d).due =
+    (h (get_or ds k d).due).0
+    (subst (λ (n : ℕ). Contains ds (record { process = n; due = (get_or ds k d).due })) is (Contains-get_or ds k d within)) in
     cc
+
+pub none_left : (p : ℕ) (old new : List Deadline) → IsSet p None old new → HasNone p new
+none_left p old new s = none_there p new s.here
+
+no_due : (o : Option Rational) → is_some o ≡ false → o ≡ None
+no_due None e = refl
+no_due (Some q) e = cc
+
+-- a process without a deadline is left as it is
+pub none_taken : (p : ℕ) (o : Option Rational) (ds : List Deadline) → AreInOrder ds → HasDue p o ds → is_some o ≡ false → IsSet p None ds ds
+none_taken p o ds kept h none =
+    none_removed ds kept p (none_there p ds (subst (λ (x : Option Rational). HasDue p x ds) (no_due o none) h))
 
 pub set_again : (p : ℕ) (due : Option Rational) (first middle last : List Deadline) → IsSet p None first middle → IsSet p due middle last →
     IsSet p due first last

@@ -8,6 +8,7 @@ pub mod Marking
 pub mod IndexOf
 pub mod MovedIndex
 pub mod ReadyIndex
+pub mod AbleIndex
 pub mod Edited
 pub mod DueSet
 pub mod DeadlinesOf

@@ -11,7 +11,7 @@ use Rattle.hc_term.specs.declared.post.Offer.TheVariants.{Send, Receive}
 use Rattle.hc_term.specs.Together.{is_offer}
 use Rattle.hc_board.specs.declared.index.Index.{Index}
 use Rattle.hc_board.specs.Bits.{has, is_in}
-use Rattle.hc_board.specs.Index.{row, is_marked, is_filled, has_both, IsWhole, IsMarked, IsTimed}
+use Rattle.hc_board.specs.Index.{row, is_marked, is_filled, has_both, IsWhole, IsMarked, IsStated}
 
 -- ---- a choice that is settled
 
@@ -93,6 +93,10 @@ same_timed : (side : Bool) (o : Index) (at w : ℕ) (ready : List ℕ) → (with
 same_timed true o at w ready = refl
 same_timed false o at w ready = refl
 
+same_able : (side : Bool) (o : Index) (at w : ℕ) (ready : List ℕ) → (with_row side o at w ready).able ≡ o.able
+same_able true o at w ready = refl
+same_able false o at w ready = refl
+
 same_ready : (side : Bool) (o : Index) (at w : ℕ) (ready : List ℕ) → (with_row side o at w ready).ready ≡ ready
 same_ready true o at w ready = refl
 same_ready false o at w ready = refl
@@ -152,6 +156,7 @@ module _ (side : Bool) (o : Index) (at q w : ℕ) (mark : Bool) (ready : List �
     };
     marks = marks_are;
     timed = same_timed side o at w ready;
+    able = same_able side o at w ready;
   }
 
 -- past the last channel nothing is marked
@@ -166,6 +171,7 @@ nothing_marked side o at q mark h n = record {
       sym (ap (λ (b : Bool). if (p == q) && b then mark else is_marked sending o c p) (past side sending at c n low)
       ∙ passed (p == q) mark (is_marked sending o c p));
   timed = refl;
+  able = refl;
 }
 
 -- ---- one offer
@@ -189,6 +195,7 @@ marked_as f g q mark old new same m = record {
   marks = λ sending c p low small.
       m.marks sending c p low small ∙ ap (λ (b : Bool). if (p == q) && b then mark else is_marked sending old c p) (same sending c);
   timed = m.timed;
+  able = m.able;
 }
 
 pub send_marked : (at : ℕ) (v slope : Rational) (q : ℕ) (mark : Bool) (old new : Index) → IsMarked (is_end true at) q mark old new →
@@ -213,6 +220,7 @@ pub record IsMarkedFor (all rest : List Offer) (q : ℕ) (mark : Bool) (first so
       (if (p == q) && any_offer all sending c then mark else is_marked sending first c p)
       ≡ (if (p == q) && any_offer rest sending c then mark else is_marked sending so_far c p)
   pub timed : so_far.timed ≡ first.timed
+  pub able : so_far.able ≡ first.able
 
 joined : {A : Type 0} (i a b : Bool) (x y : A) → (if i && (a || b) then x else y) ≡ (if i && b then x else (if i && a then x else y))
 joined false a b x y = refl
@@ -221,7 +229,7 @@ joined true true false x y = refl
 joined true false b x y = refl
 
 pub none_marked : (os : List Offer) (q : ℕ) (mark : Bool) (o : Index) → IsWhole o → IsMarkedFor os os q mark o o
-none_marked os q mark o h = record { whole = h; marks = λ sending c p low small. refl; timed = refl }
+none_marked os q mark o h = record { whole = h; marks = λ sending c p low small. refl; timed = refl; able = refl }
 
 pub next_marked : (all rest : List Offer) (offer : Offer) (q : ℕ) (mark : Bool) (first so_far new : Index) →
     IsMarkedFor all (offer ∷ rest) q mark first so_far → IsMarked (λ sending c. is_offer sending c offer) q mark so_far new →
@@ -233,6 +241,7 @@ next_marked all rest offer q mark first so_far new f m = record {
       ∙ joined (p == q) (is_offer sending c offer) (any_offer rest sending c) mark (is_marked sending so_far c p)
       ∙ ap (λ (b : Bool). if (p == q) && any_offer rest sending c then mark else b) (sym (m.marks sending c p low small));
   timed = m.timed ∙ f.timed;
+  able = m.able ∙ f.able;
 }
 
 pub all_marked : (os : List Offer) (q : ℕ) (mark : Bool) (first new : Index) → IsMarkedFor os [] q mark first new →
@@ -241,25 +250,28 @@ all_marked os q mark first new f = record {
   whole = f.whole;
   marks = λ sending c p low small. sym (f.marks sending c p low small ∙ passed (p == q) mark (is_marked sending new c p));
   timed = f.timed;
+  able = f.able;
 }
 
--- ---- who waits for time
+-- ---- who waits for time, and who wants a silent step
 
-same_rows : (o : Index) (w : ℕ) (sending : Bool) (c : ℕ) → row sending (record o { timed = w }) c ≡ row sending o c
-same_rows o w true c = refl
-same_rows o w false c = refl
+same_rows : (o : Index) (w v : ℕ) (sending : Bool) (c : ℕ) → row sending (record o { timed = w; able = v }) c ≡ row sending o c
+same_rows o w v true c = refl
+same_rows o w v false c = refl
 
-pub timed_marked : (o : Index) (q w : ℕ) (mark : Bool) → IsWhole o → w < 2 ^ 64 →
-    ((p : ℕ) → p < 64 → has w p ≡ (if p == q then mark else has o.timed p)) → IsTimed q mark o (record o { timed = w })
-timed_marked o q w mark h fits told = record {
+pub state_marked : (o : Index) (q w v : ℕ) (waits wants : Bool) → IsWhole o → w < 2 ^ 64 →
+    ((p : ℕ) → p < 64 → has w p ≡ (if p == q then waits else has o.timed p)) →
+    ((p : ℕ) → p < 64 → has v p ≡ (if p == q then wants else has o.able p)) → IsStated q waits wants o (record o { timed = w; able = v })
+state_marked o q w v waits wants h fits timed able = record {
   whole = record {
     senders = h.senders;
     receivers = h.receivers;
-    bits = λ sending c. subst (λ (n : ℕ). n < 2 ^ 64) (sym (same_rows o w sending c)) (h.bits sending c);
+    bits = λ sending c. subst (λ (n : ℕ). n < 2 ^ 64) (sym (same_rows o w v sending c)) (h.bits sending c);
     words = h.words;
     ready = h.ready;
     timed = fits;
   };
-  rows = same_rows o w;
-  timed = told;
+  rows = same_rows o w v;
+  timed = timed;
+  able = able;
 }

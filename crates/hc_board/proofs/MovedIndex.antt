@@ -18,9 +18,10 @@ use Rattle.hc_term.specs.Posts.{is_empty, least_bound, moving_fits, offer_fits, 
 use Rattle.hc_term.specs.Together.{is_offer}
 use Rattle.hc_term.specs.Moved.{less_by, moving_after, offer_after, offers_after, with_bound, moved_post}
 use Rattle.hc_board.specs.declared.index.Index.{Index}
+use Rattle.hc_board.specs.Able.{shows_step}
 use Rattle.hc_board.specs.Bits.{has}
 use Rattle.hc_board.specs.MeetingBoard.{shown}
-use Rattle.hc_board.specs.Index.{offers_on, is_waiting, IsMarked, IsIndexOf}
+use Rattle.hc_board.specs.Index.{offers_on, is_waiting, IsMarked, IsStated, IsIndexOf}
 use Rattle.hc_board.proofs.IndexOf.{still_told, taken_away}
 
 -- ---- a bound that runs out
@@ -85,28 +86,30 @@ empty_moved d (m ∷ ms) = refl
 waits_still : (d : Rational) (p : Post) → is_waiting (moved_post d p) ≡ is_waiting p
 waits_still d p = ap₂ (λ b e. b || not e) (some_less d p.bound) (empty_moved d p.moving)
 
--- a delay moves one post
+-- a delay moves one post that waits for time
 module _ (o new : Index) (ps : List Post) (p : ℕ) (d : Rational) (e q : Post) (over : Bool) (there : p < length ps) (within : length ps ≤ most_processes)
-    (t : IsIndexOf o ps) (moved : q ≡ moved_post d (get_or ps p e)) (told : over ≡ is_due (less_by d (get_or ps p e).bound)) where
+    (t : IsIndexOf o ps) (timed : has o.timed p ≡ true) (moved : q ≡ moved_post d (get_or ps p e)) (told : over ≡ is_due (less_by d (get_or ps p e).bound)) where
   same : get_or ps p e ≡ shown ps p
   same = get_or_default ps p e going_post there
 
-  waits : is_waiting q ≡ is_waiting (shown ps p)
-  waits = ap is_waiting moved ∙ waits_still d (get_or ps p e) ∙ ap is_waiting same
+  waits : true ≡ is_waiting q
+  waits =
+      sym timed ∙ t.timed p (omega (arith, there, within)) ∙ sym (ap is_waiting moved ∙ waits_still d (get_or ps p e) ∙ ap is_waiting same)
 
-  -- its bound doesn't run out, and the index stays
-  pub else_told : over ≡ false → IsIndexOf o (set ps p q)
-  else_told is_over =
-      still_told o ps p q there within t
+  -- its bound doesn't run out, and its offers stay
+  pub else_told : (wants : Bool) → over ≡ false → IsStated p true wants o new → wants ≡ shows_step q → IsIndexOf new (set ps p q)
+  else_told wants is_over state able =
+      still_told o new ps p q true wants there within t state
       (λ sending c. ap (offers_on sending c) moved ∙ else_offers_same d (get_or ps p e) (sym told ∙ is_over) sending c ∙ ap (offers_on sending c) same)
-      waits
+      waits able
 
   -- it runs out, and its offers are taken away
-  pub over_told : over ≡ true → IsMarked (λ sending c. offers_on sending c (get_or ps p e)) p false o new → IsIndexOf new (set ps p q)
-  over_told is_over away =
-      taken_away ps p there within o new t
-      (subst (λ (r : Post). IsMarked (λ sending c. offers_on sending c r) p false o new) same away) q
-      (λ sending c. ap (offers_on sending c) moved ∙ over_offers_nothing d (get_or ps p e) (sym told ∙ is_over) sending c) waits
+  pub over_told : (gone : Index) (wants : Bool) → over ≡ true → IsMarked (λ sending c. offers_on sending c (get_or ps p e)) p false o gone →
+      IsStated p true wants gone new → wants ≡ shows_step q → IsIndexOf new (set ps p q)
+  over_told gone wants is_over away state able =
+      taken_away ps p there within o gone t
+      (subst (λ (r : Post). IsMarked (λ sending c. offers_on sending c r) p false o gone) same away) q true wants new
+      (λ sending c. ap (offers_on sending c) moved ∙ over_offers_nothing d (get_or ps p e) (sym told ∙ is_over) sending c) state waits able
 
 -- ---- what waits for no time
 

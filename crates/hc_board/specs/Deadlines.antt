@@ -34,6 +34,10 @@ pub record IsPlaceOf (p : ℕ) (ds : List Deadline) (at : ℕ) : Type 0 where
 abbrev pub HasNone : ℕ → List Deadline → Type 0
 HasNone p ds = All (λ d. d.process ≢ p) ds
 
+-- process p has this deadline, or none
+abbrev pub HasDue : ℕ → Option Rational → List Deadline → Type 0
+HasDue p due ds = (q : Rational) → Contains ds (record { process = p; due = q }) ↔ (due ≡ Some q)
+
 -- deadline d belongs at this place
 pub record IsPlaceFor (d : Deadline) (ds : List Deadline) (at : ℕ) : Type 0 where
   pub within : at ≤ length ds
@@ -43,7 +47,7 @@ pub record IsPlaceFor (d : Deadline) (ds : List Deadline) (at : ℕ) : Type 0 wh
 -- process p has this deadline, or none, and all other deadlines stay
 pub record IsSet (p : ℕ) (due : Option Rational) (old new : List Deadline) : Type 0 where
   pub kept : AreInOrder new
-  pub here : (q : Rational) → Contains new (record { process = p; due = q }) ↔ (due ≡ Some q)
+  pub here : HasDue p due new
   pub others : (d : Deadline) → d.process ≢ p → Contains new d ↔ Contains old d
 
 -- ---- all processes

@@ -1,5 +1,5 @@
--- What the index of a board keeps beside its posts: which processes offer what on which channel, which channels are ready, and
--- which processes wait for time.
+-- What the index of a board keeps beside its posts: which processes offer what on which channel, which channels are ready,
+-- which processes wait for time, and which want a silent step.
 use Rattle.std.specs.Prelude.{◌≡◌, ℕ, ◌<◌, ◌^◌, Bool, true, false, not, ◌&&◌, ◌||◌, ◌==◌, if◌then◌else◌, List, length, slice_index, is_some}
 use Rattle.std.specs.List.{list_any}
 use Rattle.hc_limits.specs.Limits.{most_processes, most_channels}
@@ -8,6 +8,7 @@ use Rattle.hc_term.specs.Posts.{is_empty}
 use Rattle.hc_term.specs.Together.{is_offer}
 use Rattle.hc_board.specs.declared.index.Index.{Index}
 use Rattle.hc_board.specs.declared.deadlines.Deadline.{Deadline}
+use Rattle.hc_board.specs.Able.{shows_able}
 use Rattle.hc_board.specs.Bits.{has, is_in}
 use Rattle.hc_board.specs.Deadlines.{AreDeadlinesOf}
 use Rattle.hc_board.specs.MeetingBoard.{shown}
@@ -60,12 +61,14 @@ pub record IsMarked (f : Bool → ℕ → Bool) (q : ℕ) (mark : Bool) (old new
   pub marks : (sending : Bool) (c p : ℕ) → c < most_channels → p < most_processes →
       is_marked sending new c p ≡ (if (p == q) && f sending c then mark else is_marked sending old c p)
   pub timed : new.timed ≡ old.timed
+  pub able : new.able ≡ old.able
 
--- whether process q waits for time is marked so, and all other marks stay
-pub record IsTimed (q : ℕ) (mark : Bool) (old new : Index) : Type 0 where
+-- whether process q waits for time, and whether it wants a silent step, are marked so, and all other marks stay
+pub record IsStated (q : ℕ) (waits wants : Bool) (old new : Index) : Type 0 where
   pub whole : IsWhole new
   pub rows : (sending : Bool) (c : ℕ) → row sending new c ≡ row sending old c
-  pub timed : (p : ℕ) → p < most_processes → has new.timed p ≡ (if p == q then mark else has old.timed p)
+  pub timed : (p : ℕ) → p < most_processes → has new.timed p ≡ (if p == q then waits else has old.timed p)
+  pub able : (p : ℕ) → p < most_processes → has new.able p ≡ (if p == q then wants else has old.able p)
 
 -- the marks are those of the posts
 pub record IsIndexOf (o : Index) (ps : List Post) : Type 0 where
@@ -73,6 +76,7 @@ pub record IsIndexOf (o : Index) (ps : List Post) : Type 0 where
   pub marks : (sending : Bool) (c p : ℕ) → c < most_channels → p < most_processes →
       is_marked sending o c p ≡ offers_on sending c (shown ps p)
   pub timed : (p : ℕ) → p < most_processes → has o.timed p ≡ is_waiting (shown ps p)
+  pub able : (p : ℕ) → p < most_processes → has o.able p ≡ shows_able ps p
 
 -- what every board keeps: the limits, an index of its posts, and their deadlines
 pub record IsKept (ps : List Post) (channels : ℕ) (o : Index) (ds : List Deadline) : Type 0 where

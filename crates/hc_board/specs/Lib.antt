@@ -1,4 +1,5 @@
 pub mod Bits
+pub mod Able
 pub mod Seen
 pub mod Answers
 pub mod MeetingBoard

@@ -1,6 +1,6 @@
 //! Sets of small numbers, as the bits of words.
 
-ghost use Rattle.std.specs.Prelude.{◌≡◌, ◌<◌, ◌≤◌, ◌*◌, ℕ, ◌==◌, if◌then◌else◌, length, IfSome, IfNone, false};
+ghost use Rattle.std.specs.Prelude.{◌≡◌, ◌<◌, ◌≤◌, ◌*◌, ℕ, ◌==◌, nat_lt, if◌then◌else◌, length, IfSome, IfNone, false};
 ghost use Rattle.hc_board.specs.Bits.{has, is_in, IsLeast};
 
 /// The word in which this bit, below 64, is set or cleared.
@@ -13,6 +13,18 @@ pub(crate) fn with_bit(word: u64, bit: u32, is_set: bool) -> u64
     } else {
         word & !(1 << bit)
     }
+}
+
+/// The word with the bits below this one, of 64, set.
+pub(crate) fn first_bits(count: u32) -> u64
+    requires { count ≤ 64 }
+    ensures { (i : ℕ) → i < 64 → has result i ≡ nat_lt i count }
+{
+    let mut word = 0;
+    for bit in 0..count {
+        word = with_bit(word, bit, true);
+    }
+    word
 }
 
 /// Whether this bit, below 64, is set.

@@ -7,11 +7,13 @@ ghost use Rattle.hc_term.specs.Posts.{first_meeting, passing_on};
 ghost use Rattle.hc_term.specs.Moved.{fired};
 ghost use Rattle.hc_board.specs.Seen.{KeepsLimits};
 ghost use Rattle.hc_board.specs.Answers.{answer_of, after_delay, after_meeting};
+ghost use Rattle.hc_board.specs.Able.{shows_able, least_from};
 ghost use Rattle.hc_board.specs.Bits.{is_in};
 ghost use Rattle.hc_board.specs.MeetingBoard.{IsReady};
 ghost use Rattle.hc_board.specs.Index.{is_waiting, IsIndexOf};
 ghost use Rattle.hc_board.specs.Deadlines.{AreDeadlinesOf};
 
+use crate::able::wants_step;
 use crate::deadlines::{Deadline, Deadlines};
 use crate::delayed::Delayed;
 use crate::delays::{move_all, passing};
@@ -23,8 +25,8 @@ use std::alloc::{AllocError, Global};
 use std::marker::Model;
 
 /// What each process shows to the others, by the numbers of the processes: at most 64 posts, over at most 256 channels.
-/// Beside them stand an index, so that ready channels and the processes that wait for time are found without looking through
-/// them, and a list of the deadlines. Only `open` takes memory.
+/// Beside them stand an index, so that ready channels, the processes that wait for time and those that want a silent step
+/// are found without looking through them, and a list of the deadlines. Only `open` takes memory.
 #[derive(Drop)]
 pub struct Board {
     posts: Vec<Post>,
@@ -55,7 +57,7 @@ impl Board {
         Ok(Board {
             posts,
             channels,
-            index: Index::nothing(),
+            index: Index::all_going(processes),
             deadlines: Deadlines::none(),
         })
     }
@@ -80,6 +82,20 @@ impl Board {
         ensures { AreDeadlinesOf result.now self.now.posts }
     {
         self.deadlines.list.as_slice()
+    }
+
+    /// Whether there is a process of this number, and it wants a silent step: it is going, or its bound has run out.
+    pub fn is_able(&self, process: u32) -> bool
+        ensures { result ≡ shows_able self.now.posts process }
+    {
+        self.index.is_able(process)
+    }
+
+    /// The least process that wants a silent step, or `None` where no process wants one.
+    pub fn least_able(&self) -> Option<u32>
+        ensures { result ≡ least_from 0 self.now.posts }
+    {
+        self.index.least_able()
     }
 
     /// Replaces what a process shows.
@@ -170,8 +186,8 @@ fn replace(
     let shown = &mut posts[process as usize];
     index.mark_all(shown.offers.as_slice(), process, false);
     index.mark_all(post.offers.as_slice(), process, true);
-    index.mark_timed(process, waits_for_time(post));
-    deadlines.set(process, post.due);
+    index.mark_state(process, waits_for_time(post), wants_step(post));
+    deadlines.set(process, shown.due, post.due);
     post.copy_into(shown);
 }
 
@@ -187,8 +203,8 @@ fn set_going(posts: &mut [Post], index: &mut Index, deadlines: &mut Deadlines, p
 {
     let post = &mut posts[process as usize];
     index.mark_all(post.offers.as_slice(), process, false);
-    index.mark_timed(process, false);
-    deadlines.set(process, None);
+    index.mark_state(process, false, true);
+    deadlines.set(process, post.due, None);
     post.show(Phase::Going);
 }
 

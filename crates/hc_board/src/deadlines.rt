@@ -2,7 +2,7 @@
 
 ghost use Rattle.std.specs.Prelude.{◌≡◌, ◌<◌, ◌↔◌, [], AllPairs, IfSome, IfNone, IsTrue, None, Some};
 ghost use Rattle.hc_limits.specs.Limits.{most_processes};
-ghost use Rattle.hc_board.specs.Deadlines.{IsBefore, AreInOrder, IsPlaceOf, HasNone, IsPlaceFor, IsSet};
+ghost use Rattle.hc_board.specs.Deadlines.{IsBefore, AreInOrder, IsPlaceOf, HasNone, HasDue, IsPlaceFor, IsSet};
 
 use arrayvec::ArrayVec;
 use hc_frac::Frac;
@@ -92,13 +92,25 @@ impl Deadlines {
         self.list.insert(at, deadline);
     }
 
-    /// Sets the deadline of a process, or that it has none.
-    pub(crate) fn set(&mut self, process: u32, due: Option<Frac>)
+    /// Takes away the deadline of a process that has this one, or none.
+    fn take(&mut self, process: u32, before: Option<Frac>)
+        requires kept { AreInOrder self.old.list.items }
+        requires has { HasDue process before self.old.list.items }
+        ensures { IsSet process None self.old.list.items self.new.list.items }
+    {
+        if before.is_some() {
+            self.remove(process);
+        }
+    }
+
+    /// Sets the deadline of a process, or that it has none, where it had this one before, or none.
+    pub(crate) fn set(&mut self, process: u32, before: Option<Frac>, due: Option<Frac>)
         requires kept { AreInOrder self.old.list.items }
         requires process { process < most_processes }
+        requires has { HasDue process before self.old.list.items }
         ensures { IsSet process due self.old.list.items self.new.list.items }
     {
-        self.remove(process);
+        self.take(process, before);
         if let Some(due) = due {
             self.insert(process, due);
         }

@@ -12,6 +12,7 @@ ghost use Rattle.hc_board.specs.MeetingBoard.{shown};
 ghost use Rattle.hc_board.specs.Index.{IsIndexOf};
 ghost use Rattle.hc_board.specs.Deadlines.{AreDeadlinesOf};
 
+use crate::able::wants_step;
 use crate::deadlines::Deadlines;
 use crate::delayed::Delayed;
 use crate::index::Index;
@@ -149,7 +150,8 @@ fn runs_out(bound: Option<Frac>, by: Frac) -> bool
     }
 }
 
-/// Lets so many time units pass for one post. Where its bound runs out it offers nothing and has no deadline.
+/// Lets so many time units pass for one post. Where its bound runs out it offers nothing and has no deadline. It waits for
+/// time as before, and may want a silent step then.
 fn move_post(
     posts: &mut [Post],
     index: &mut Index,
@@ -172,10 +174,12 @@ fn move_post(
     let post = &mut posts[process as usize];
     if runs_out(post.bound, by) {
         index.mark_all(post.offers.as_slice(), process, false);
-        deadlines.set(process, None);
+        deadlines.set(process, post.due, None);
         post.move_by(by);
+        index.mark_state(process, true, wants_step(post));
     } else {
         post.move_by(by);
+        index.mark_state(process, true, wants_step(post));
     }
 }
 

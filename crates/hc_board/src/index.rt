@@ -1,26 +1,29 @@
 //! What is found on a board without looking through its posts.
 
-ghost use Rattle.std.specs.Prelude.{◌≡◌, ◌<◌, ◌≤◌, List, length, ◌&&◌, ◌==◌, ℕ, Bool, false, not, replicate};
+ghost use Rattle.std.specs.Prelude.{◌≡◌, ◌<◌, ◌≤◌, List, length, ◌&&◌, ◌==◌, ℕ, Bool, false, not, nat_lt, replicate};
 ghost use Rattle.std.specs.List.{list_any};
 ghost use Rattle.hc_limits.specs.Limits.{most_processes, most_channels};
 ghost use Rattle.hc_term.specs.declared.post.Post.{Post};
 ghost use Rattle.hc_term.specs.Posts.{is_timed};
 ghost use Rattle.hc_term.specs.Together.{is_offer};
 ghost use Rattle.hc_board.specs.Bits.{has};
-ghost use Rattle.hc_board.specs.Index.{IsWhole, IsMarked, IsTimed, IsIndexOf, is_marked};
+ghost use Rattle.hc_board.specs.Able.{shows_able, least_from};
+ghost use Rattle.hc_board.specs.Index.{IsWhole, IsMarked, IsStated, IsIndexOf, is_marked};
 
-use crate::bits::{has_bit, set_member, with_bit};
-use hc_limits::MOST_CHANNELS;
+use crate::bits::{first_bits, has_bit, least_bit, set_member, with_bit};
+use hc_limits::{MOST_CHANNELS, MOST_PROCESSES};
 use hc_term::Offer;
 
-/// For each channel the processes that offer to send and those that offer to receive on it, the channels with both, and the
-/// processes that have a bound or evolve, all as bits of words. Channels past the limit have no place.
+/// For each channel the processes that offer to send and those that offer to receive on it, the channels with both, the
+/// processes that have a bound or evolve, and those that want a silent step, all as bits of words. Channels past the limit
+/// have no place.
 #[derive(Drop)]
 pub(crate) struct Index {
     pub(crate) senders: [u64; MOST_CHANNELS],
     pub(crate) receivers: [u64; MOST_CHANNELS],
     pub(crate) ready: [u64; 4],
     pub(crate) timed: u64,
+    pub(crate) able: u64,
 }
 
 /// No process on any channel.
@@ -38,17 +41,21 @@ fn no_channels() -> [u64; 4]
 }
 
 impl Index {
-    /// Nothing is offered, and no process waits for time.
-    pub(crate) fn nothing() -> Index
+    /// So many processes are going: nothing is offered, none waits for time, and each wants a silent step.
+    pub(crate) fn all_going(processes: u32) -> Index
+        requires { processes ≤ most_processes }
         ensures whole { IsWhole result }
         ensures none { (sending : Bool) (c p : ℕ) → c < most_channels → is_marked sending result c p ≡ false }
         ensures untimed { (p : ℕ) → has result.timed p ≡ false }
+        ensures able { (p : ℕ) → p < most_processes → has result.able p ≡ nat_lt p processes }
     {
+        let able = first_bits(processes);
         Index {
             senders: no_processes(),
             receivers: no_processes(),
             ready: no_channels(),
             timed: 0,
+            able,
         }
     }
 
@@ -105,13 +112,14 @@ impl Index {
         }
     }
 
-    /// Marks whether the process has a bound or evolves.
-    pub(crate) fn mark_timed(&mut self, process: u32, is_timed: bool)
+    /// Marks whether the process has a bound or evolves, and whether it wants a silent step.
+    pub(crate) fn mark_state(&mut self, process: u32, is_timed: bool, is_able: bool)
         requires whole { IsWhole self.old }
         requires process { process < most_processes }
-        ensures { IsTimed process is_timed self.old self.new }
+        ensures { IsStated process is_timed is_able self.old self.new }
     {
         self.timed = with_bit(self.timed, process, is_timed);
+        self.able = with_bit(self.able, process, is_able);
     }
 
     /// Whether the process has a bound or evolves.
@@ -127,5 +135,23 @@ impl Index {
         ensures { (ps : List Post) → IsIndexOf self.now ps → length ps ≤ most_processes → result ≡ is_timed ps }
     {
         self.timed != 0
+    }
+
+    /// Whether there is a process of this number, and it wants a silent step.
+    pub(crate) fn is_able(&self, process: u32) -> bool
+        ensures { (ps : List Post) → IsIndexOf self.now ps → length ps ≤ most_processes → result ≡ shows_able ps process }
+    {
+        if process < MOST_PROCESSES as u32 {
+            has_bit(self.able, process)
+        } else {
+            false
+        }
+    }
+
+    /// The least process that wants a silent step.
+    pub(crate) fn least_able(&self) -> Option<u32>
+        ensures { (ps : List Post) → IsIndexOf self.now ps → length ps ≤ most_processes → result ≡ least_from 0 ps }
+    {
+        least_bit(self.able)
     }
 }

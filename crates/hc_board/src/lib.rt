@@ -1,6 +1,7 @@
 //! The board on which the processes of a system post what they show, where they meet, and on which time passes.
 #![tactic(auto)]
 
+mod able;
 mod bits;
 mod board;
 mod deadlines;

@@ -34,6 +34,7 @@ fn two_meet_and_one_waits(rt: HostRuntime) -> Result<(), Fail> {
     let two = Frac::new(2, 1).ok_or("2 fits")?;
     let three = Frac::new(3, 1).ok_or("3 fits")?;
     let mut board = Board::open(rt.alloc(), 3, 2)?;
+    assert_eq!(rt; board.least_able(), Some(0));
     board.post(
         0,
         &offering(Offer::Send {
@@ -45,6 +46,7 @@ fn two_meet_and_one_waits(rt: HostRuntime) -> Result<(), Fail> {
     board.post(1, &waiting(two));
     board.post(2, &offering(Offer::Receive { channel: 1 }));
     assert_eq!(rt; board.ready()[0], 2);
+    assert_eq!(rt; board.least_able(), None);
     assert_eq!(rt;
         board.fire(),
         Some(Meeting {
@@ -59,6 +61,8 @@ fn two_meet_and_one_waits(rt: HostRuntime) -> Result<(), Fail> {
     assert_eq!(rt; board.fire(), None);
     assert_eq!(rt; board.delay(zero, three), Delayed::Took(two));
     assert_eq!(rt; board.deadlines().len(), 0);
+    assert_eq!(rt; board.is_able(0), true);
+    assert_eq!(rt; board.is_able(3), false);
     assert_eq!(rt; board.posts().len(), 3);
     Ok(())
 }

@@ -3,6 +3,7 @@ pub mod Line
 pub mod Expression
 pub mod Primitive
 pub mod Turn
+pub mod Calls
 pub mod Machine
 pub mod Seeded
 pub mod Laws

@@ -90,13 +90,9 @@ module _ (s : Scene) (c : Configuration) (at : IsAt s c) where
     pub none : is_some o ≡ false
     pub answer : d ≡ answer_of (passing_on s.clock s.task.horizon s.board.posts)
 
-  pub looked : (o : Option ℕ) (d : Delayed) (ps : List Post) (b : Bool) → ps ≡ s.board.posts → o ≡ least_from 0 ps → b ≡ is_some o → b ≡ false →
+  pub looked : (o : Option ℕ) (d : Delayed) (b : Bool) → o ≡ least_from 0 s.board.posts → b ≡ is_some o → b ≡ false →
       d ≡ answer_of (passing_on s.clock s.task.horizon s.board.posts) → Looked o d
-  looked o d ps b shown least test none answer = record {
-    least = least ∙ ap (λ (l : List Post). least_from 0 l) shown;
-    none = sym test ∙ none;
-    answer = answer;
-  }
+  looked o d b least test none answer = record { least = least; none = sym test ∙ none; answer = answer }
 
   -- time does what the board answered
   pub record Answers (d : Delayed) : Type 0 where

@@ -1,11 +1,7 @@
 -- A joint that lends what it keeps of a process, and that has a turn with an advance.
-use Rattle.std.proofs.Common.{◌≡◌, ◌≢◌, ◌<◌, refl, sym, ap, subst, ◌∙◌, ℕ, ◌+◌, ◌-◌, ◌≤◌, ◌++◌, ◌⊎◌, inl, inr, Bool, true, false, if◌then◌else◌, List, length, slice_get, Option, Some, None, is_some, arith}
+use Rattle.std.proofs.Common.{◌≡◌, ◌≢◌, ◌<◌, refl, sym, ap, subst, ◌∙◌, ℕ, ◌+◌, ◌≤◌, ◌++◌, inl, inr, Bool, true, false, length, slice_get, Option, Some, None, is_some, arith}
 use Rattle.std.proofs.lemmas.Option.{slice_get_within}
-use Rattle.hc_rational.specs.Words.{Rational}
-use Rattle.hc_term.specs.declared.task.Task.{Task}
-use Rattle.hc_term.specs.declared.run.Item.{Item}
 use Rattle.hc_term.specs.declared.run.Stop.{Stop}
-use Rattle.hc_term.specs.declared.post.Post.{Post}
 use Rattle.hc_term.specs.declared.model.ProcessState.{ProcessState}
 use Rattle.hc_term.specs.declared.model.Configuration.{Configuration}
 use Rattle.hc_term.specs.Process.{wants}
@@ -16,14 +12,14 @@ use Rattle.hc_joint.specs.declared.member.Member.{Member}
 use Rattle.hc_joint.specs.declared.scene.Scene.{Scene}
 use Rattle.hc_joint.specs.declared.turn.Turn.{Turn}
 use Rattle.hc_joint.specs.declared.turn.Turn.TheVariants as turn
-use Rattle.hc_joint.specs.Able.{is_able, wants_if, shows_step_if}
+use Rattle.hc_joint.specs.Able.{is_able, wants_if, shows_able}
 use Rattle.hc_joint.specs.Seen.{Seen}
 use Rattle.hc_joint.specs.States.{IsIn}
 use Rattle.hc_joint.specs.Stands.{IsAt}
 use Rattle.hc_joint.specs.Parts.{room, Comes}
-use Rattle.hc_joint.specs.Keeps.{IsMade, IsReached, seen, turned}
+use Rattle.hc_joint.specs.Keeps.{IsMade, IsReached, seen}
 use Rattle.hc_joint.specs.Judging.{is_made, again}
-use Rattle.hc_joint.specs.Handed.{KeptOf, MayTurn, Leases, Judges, JudgedBy, Answers, state_after}
+use Rattle.hc_joint.specs.Handed.{KeptOf, MayTurn, Leases, Judges, Answers, state_after}
 use Rattle.hc_joint.specs.Lending.{kept, Lends}
 use Rattle.hc_joint.proofs.Once.{reached_once}
 use Rattle.hc_joint.proofs.Places.{beside}
@@ -57,11 +53,8 @@ module _ (s : Scene) (stop : Option Stop) (turns recomputed : ℕ) (m : IsMade s
   stop_stands old is e = subst (λ (x : Seen). x.stop ≢ None) is (some_stands stop e)
 
   module _ (p : ℕ) where
-    pub able_here : (b : Bool) (shown : List Post) → b ≡ shows_step_if (slice_get shown p) → shown ≡ s.board.posts →
-        b ≡ is_able p m.reached.processes
-    able_here b shown e same =
-        e ∙ ap (λ (ps : List Post). shows_step_if (slice_get ps p)) same
-        ∙ able_seen s stop turns recomputed m p m.reached here
+    pub able_here : (b : Bool) → b ≡ shows_able s.board.posts p → b ≡ is_able p m.reached.processes
+    able_here b e = e ∙ able_seen s stop turns recomputed m p m.reached here
 
     pub not_able : (old : Seen) → view ≡ old → is_able p m.reached.processes ≡ false → (c : Configuration) → IsReached old c →
         is_able p c.processes ≡ false

@@ -4,7 +4,7 @@ ghost use Rattle.std.specs.Prelude.{◌≡◌};
 
 use crate::members::move_all;
 use crate::scene::Scene;
-use crate::shown::{are_ended, least_able};
+use crate::shown::are_ended;
 use hc_board::Delayed;
 use hc_frac::Frac;
 use hc_term::{Item, Step, Stop};
@@ -60,7 +60,7 @@ impl Scene {
         if self.history.len() == self.task.limit as usize {
             return Some(Stop::Limit);
         }
-        if least_able(self.board.posts()).is_some() {
+        if self.board.least_able().is_some() {
             return None;
         }
         match self.board.delay(self.clock, self.task.horizon) {
@@ -78,7 +78,7 @@ impl Scene {
         ensures { (c : Configuration) → IsAt self.old c → ready self.old.task c ≡ None →
             Comes self.old self.new (last_part_by (room self.old - 1) self.old.task c (passing self.old.task c)) result }
     {
-        if least_able(self.board.posts()).is_some() {
+        if self.board.least_able().is_some() {
             return None;
         }
         match self.board.delay(self.clock, self.task.horizon) {

@@ -3,7 +3,6 @@
 ghost use Rattle.std.specs.Prelude.{◌≡◌};
 
 use crate::scene::Scene;
-use crate::shown::{least_able, wants_step_at};
 use crate::turn::Turn;
 use hc_advance::Advance;
 use hc_frac::Frac;
@@ -107,7 +106,7 @@ impl Joint {
     pub fn able(&self, process: u32) -> bool
         ensures { (c : Configuration) → IsReached self.now c → result ≡ is_able process c.processes }
     {
-        wants_step_at(self.scene.board.posts(), process)
+        self.scene.board.is_able(process)
     }
 
     /// Lends to the advance what is kept of the process: the advance starts there then, and isn't worked. False where a stop
@@ -118,7 +117,7 @@ impl Joint {
         if self.stop.is_some() {
             return false;
         }
-        if !wants_step_at(self.scene.board.posts(), process) {
+        if !self.scene.board.is_able(process) {
             return false;
         }
         self.scene.lend(process, advance)
@@ -136,7 +135,7 @@ impl Joint {
         if self.stop.is_some() {
             return Turn::Stopped;
         }
-        if !wants_step_at(self.scene.board.posts(), process) {
+        if !self.scene.board.is_able(process) {
             return Turn::NotAble;
         }
         let (turn, stop) = self.scene.event_with(process, advance);
@@ -153,7 +152,7 @@ impl Joint {
         if self.stop.is_some() {
             return false;
         }
-        let Some(process) = least_able(self.scene.board.posts()) else {
+        let Some(process) = self.scene.board.least_able() else {
             unreachable!()
         };
         self.stop = self.scene.event(process);

@@ -6,11 +6,10 @@ use Rattle.hc_joint.proofs.NextTurn.{has_room, turns_fit}
 use Rattle.hc_joint.proofs.Lent.{able_here, not_able, is_there, answers, is_turn, again_few, turn_made, turn_after}
 use Rattle.hc_joint.proofs.joint.Joint.turn.Goals as goal
 
-pub returns-then-not-wants_step_at-clause-answer : goal.returns-then-not-wants_step_at-clause-answer
-returns-then-not-wants_step_at-clause-answer c at is =
+pub returns-then-not-is_able-clause-answer : goal.returns-then-not-is_able-clause-answer
+returns-then-not-is_able-clause-answer c at is =
     let j = c.self.inside in
-    let able = able_here j.scene j.stop j.turns j.recomputed c.self.invariant c.args.process _ c.posts.result.now
-    c.if-not-wants_step_at.ensures c.posts.ensures.posts in (
+    let able = able_here j.scene j.stop j.turns j.recomputed c.self.invariant c.args.process _ c.if-not-is_able.ensures in (
       ap (λ (s : Seen). s.stop) (sym c.self.view_is) ∙ none_is j.stop (sym c.if-is_some.ensures),
       not_able j.scene j.stop j.turns j.recomputed c.self.invariant c.args.process c.args.self.now c.self.view_is (sym able) at is,
     )
@@ -19,8 +18,7 @@ pub event_with-turn-requires-clause-there : goal.event_with-turn-requires-clause
 event_with-turn-requires-clause-there c =
     let j = c.self.inside in
     is_there j.scene j.stop j.turns j.recomputed c.self.invariant c.args.process
-    (sym (able_here j.scene j.stop j.turns j.recomputed c.self.invariant c.args.process _ c.posts.result.now
-    c.if-not-wants_step_at.ensures c.posts.ensures.posts))
+    (sym (able_here j.scene j.stop j.turns j.recomputed c.self.invariant c.args.process _ c.if-not-is_able.ensures))
 
 pub event_with-turn-requires-clause-left : goal.event_with-turn-requires-clause-left
 event_with-turn-requires-clause-left c =
@@ -44,8 +42,7 @@ pub invariant_of-self : goal.invariant_of-self
 invariant_of-self c =
     let j = c.self.inside in
     let said = c.event_with-turn.result.0 in
-    let able = sym (able_here j.scene j.stop j.turns j.recomputed c.self.invariant c.args.process _ c.posts.result.now
-    c.if-not-wants_step_at.ensures c.posts.ensures.posts) in
+    let able = sym (able_here j.scene j.stop j.turns j.recomputed c.self.invariant c.args.process _ c.if-not-is_able.ensures) in
     subst (λ (n : ℕ). IsMade c.event_with-turn.new.self c.event_with-turn.result.1 (j.turns + 1) (j.recomputed + n)) (sym c.again.ensures)
     (turn_made j.scene j.stop j.turns j.recomputed c.self.invariant c.args.process able c.if-is_some.ensures
     c.event_with-turn.new.self c.event_with-turn.result.1 c.event_with-turn.ensures.comes said (again_few said))
@@ -53,8 +50,7 @@ invariant_of-self c =
 pub returns-clause-answer : goal.returns-clause-answer
 returns-clause-answer c at is =
     let j = c.self.inside in
-    let able = sym (able_here j.scene j.stop j.turns j.recomputed c.self.invariant c.args.process _ c.posts.result.now
-    c.if-not-wants_step_at.ensures c.posts.ensures.posts) in
+    let able = sym (able_here j.scene j.stop j.turns j.recomputed c.self.invariant c.args.process _ c.if-not-is_able.ensures) in
     answers j.scene j.stop j.turns j.recomputed c.self.invariant c.args.process able c.if-is_some.ensures
     c.args.self.now c.self.view_is c.args.advance.now c.event_with-turn.result.0 c.event_with-turn.ensures.judges at is
 
@@ -63,8 +59,7 @@ returns-clause-state c at is =
     let j = c.self.inside in
     let new = c.event_with-turn.new.self in
     let said = c.event_with-turn.result.0 in
-    let able = sym (able_here j.scene j.stop j.turns j.recomputed c.self.invariant c.args.process _ c.posts.result.now
-    c.if-not-wants_step_at.ensures c.posts.ensures.posts) in
+    let able = sym (able_here j.scene j.stop j.turns j.recomputed c.self.invariant c.args.process _ c.if-not-is_able.ensures) in
     let made = is_turn j.scene j.stop j.turns j.recomputed c.self.invariant c.args.process able c.if-is_some.ensures
     said c.args.advance.now c.event_with-turn.ensures.judges in
     ap (λ (n : ℕ). seen new.task new.clock new.history.items c.event_with-turn.result.1 (j.turns + 1) (j.recomputed + n)) c.again.ensures
@@ -75,8 +70,7 @@ pub returns-clause-turns : goal.returns-clause-turns
 returns-clause-turns c =
     let j = c.self.inside in
     let said = c.event_with-turn.result.0 in
-    let able = sym (able_here j.scene j.stop j.turns j.recomputed c.self.invariant c.args.process _ c.posts.result.now
-    c.if-not-wants_step_at.ensures c.posts.ensures.posts) in
+    let able = sym (able_here j.scene j.stop j.turns j.recomputed c.self.invariant c.args.process _ c.if-not-is_able.ensures) in
     let made = is_turn j.scene j.stop j.turns j.recomputed c.self.invariant c.args.process able c.if-is_some.ensures
     said c.args.advance.now c.event_with-turn.ensures.judges in
     let old = c.args.self.now in
