@@ -25,7 +25,8 @@ use Rattle.hc_term.proofs.Wanting.{active-wants}
 use Rattle.hc_term.proofs.Offering.{sender-idle, receiver-idle}
 use Rattle.hc_term.proofs.Places.{get-set_other, get-changed_other}
 use Rattle.hc_term.proofs.Turns.{passing-quiet}
-use Rattle.hc_order.specs.Determinate.{is_determinate, Handed, handed_by, handed}
+use Rattle.hc_order.specs.declared.handed.Handed.{Handed}
+use Rattle.hc_order.specs.Determinate.{is_determinate, handed_by, handed}
 use Rattle.hc_order.specs.Laws.{Agree, IsSettled, DeterminateRunsAgree}
 use Rattle.hc_order.proofs.OneWay.{resting}
 use Rattle.hc_order.proofs.Diamond.{Reaches, opening-reaches, step-reaches, Diamond, diamond, rest-silent, meets-ready}

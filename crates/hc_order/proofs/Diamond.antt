@@ -23,7 +23,8 @@ use Rattle.hc_term.proofs.Commute.{silent_steps_commute, silent_and_comm_commute
 use Rattle.hc_term.proofs.Places.{get-changed_other}
 use Rattle.hc_term.proofs.Wanting.{active-wants}
 use Rattle.hc_term.proofs.Turns.{passing-quiet}
-use Rattle.hc_order.specs.Determinate.{is_determinate, Handed, handed_by}
+use Rattle.hc_order.specs.declared.handed.Handed.{Handed}
+use Rattle.hc_order.specs.Determinate.{is_determinate, handed_by}
 use Rattle.hc_order.specs.Laws.{Apart, MeetingsCommute, DeterminateStepsCommute}
 use Rattle.hc_order.proofs.Ends.{KeepsBodies, opening-keeps, step-keeps}
 use Rattle.hc_order.proofs.OneWay.{one_meeting, resting, did_one}

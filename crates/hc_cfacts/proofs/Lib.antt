@@ -1,0 +1,11 @@
+pub mod Sane
+pub mod Goes
+pub mod Exprs
+pub mod Literals
+pub mod Arguments
+pub mod Callees
+pub mod CallForms
+pub mod Stmts
+pub mod Names
+pub mod Bodies
+pub mod Units

@@ -1,0 +1,4 @@
+pub mod Single
+pub mod Lists
+pub mod Text
+pub mod Laws
