@@ -208,7 +208,8 @@ module _ (s : CState) (o k : ℕ) (free : s.world.owner ≡ None) (inv : Inv s) 
         r.0,
         λ g.
             subst Inv (sym (r.1 g ∙ at)) (
-            inv.0, puts_stirred s o [] (with (asleep x)) (with (looping x)) (Waiting (own_number x)) there inv.1 (x, inr (inl refl))
+              inv.0,
+              puts_stirred s o [] (with (asleep x)) (with (looping x)) (Waiting (own_number x)) there inv.1 (x, inr (inl refl)),
             ),
       )
 
@@ -223,8 +224,8 @@ module _ (s : CState) (o k : ℕ) (free : s.world.owner ≡ None) (inv : Inv s) 
         r.0,
         λ g.
             subst Inv (sym (r.1 g ∙ at)) (
-            (row, other x, refl),
-            puts_stirred s o (own_number (other x) ∷ []) (with unlocks) (with last) Ready there inv.1 (x, inr (inr (inr (inl refl)))),
+              (row, other x, refl),
+              puts_stirred s o (own_number (other x) ∷ []) (with unlocks) (with last) Ready there inv.1 (x, inr (inr (inr (inl refl)))),
             ),
       )
 

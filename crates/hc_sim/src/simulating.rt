@@ -2,24 +2,27 @@
 
 ghost use Rattle.std.specs.Prelude.{◌≡◌, [], None, IfOk, IfErr};
 ghost use Rattle.hc_term.specs.Canonical.{canonical};
+ghost use Rattle.hc_trace.specs.EndsTable.{table_of};
 ghost use Rattle.hc_world.specs.Sinks.{PutsWhole};
 ghost use Rattle.hc_joint.specs.Keeps.{HasCourse};
 ghost use Rattle.hc_sim.specs.Told.{canonical_text, IsCutShort, TellsTurn};
 
-use crate::writing::{put_lines, put_stop, put_text};
+use crate::writing::{all_ends, put_lines, put_stop, put_text};
 use hc_joint::Joint;
 use hc_term::Stop;
+use hc_trace::ChannelEnds;
 use hc_world::{Failed, Sink};
 
 /// Takes a turn, and writes a line for each of its visible steps. False where a stop stood.
-fn tell_turn<O: Sink>(joint: &mut Joint, out: &mut O) -> Result<bool, Failed>
+fn tell_turn<O: Sink>(joint: &mut Joint, ends: &ChannelEnds, out: &mut O) -> Result<bool, Failed>
+    requires { ends.now ≡ table_of joint.old.task.system }
     ensures { TellsTurn O.state out.old out.new joint.old joint.new result }
 {
     let told = joint.history().len();
     if !joint.forward() {
         return Ok(false);
     }
-    put_lines(&joint.task().system, &joint.history()[told..], out)?;
+    put_lines(&joint.task().system, ends, &joint.history()[told..], out)?;
     Ok(true)
 }
 
@@ -36,8 +39,9 @@ pub fn simulate<O: Sink>(joint: &mut Joint, out: &mut O) -> Result<Stop, Failed>
     ensures failed { IfErr result (λ _. IsCutShort O.state out.old joint.new) }
     ensures task { joint.new.task ≡ joint.old.task }
 {
-    put_text(joint, out)?;
-    while tell_turn(joint, out)? {}
+    let ends = all_ends(joint);
+    put_text(joint, &ends, out)?;
+    while tell_turn(joint, &ends, out)? {}
     let Some(stop) = joint.stop() else {
         unreachable!()
     };

@@ -1,4 +1,5 @@
 pub mod Cuts
+pub mod EndsTable
 pub mod Events
 pub mod Headers
 mod LineLemmas

@@ -45,7 +45,7 @@ user_by : (test : Bool) (later : Option ℕ) (n p bound : ℕ) → cond test (So
 user_by true later n p bound e here rest = let same : n ≡ p = cc e in omega arith
 user_by false later n p bound e here rest = rest e
 
-user_within : (sending : Bool) (c n : ℕ) (ps : List Process) (p : ℕ) → user_from sending c n ps ≡ Some p → p < n + length ps
+pub user_within : (sending : Bool) (c n : ℕ) (ps : List Process) (p : ℕ) → user_from sending c n ps ≡ Some p → p < n + length ps
 user_within sending c n [] p e = absurd (cc e)
 user_within sending c n (b ∷ bs) p e =
     user_by (is_user sending c b) (user_from sending c (n + 1) bs) n p (n + length (b ∷ bs)) e (omega arith)

@@ -1,3 +1,4 @@
+pub mod EndsTable
 pub mod Found
 pub mod InRange
 pub mod Laws

@@ -2,6 +2,7 @@
 #![tactic(auto)]
 
 mod cut;
+mod ends;
 mod laws;
 mod lines;
 mod reading;
@@ -9,6 +10,7 @@ mod rows;
 mod splitting;
 mod traces;
 
+pub use ends::ChannelEnds;
 pub use laws::{range_laws, reading_laws};
 pub use lines::{HEADER, end_line, event_line, header};
 pub use reading::{TraceStop, read_trace};

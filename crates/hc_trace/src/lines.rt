@@ -2,13 +2,16 @@
 ghost use Rattle.std.specs.Prelude.{◌≡◌, ◌<◌, ◌≤◌, ◌↔◌, ◌+◌, ◌∷◌, ◌++◌, length, map, IsSome, IfSome, IsTrue};
 ghost use Rattle.arrayvec.specs.ArrayString.{array_string_len};
 ghost use Rattle.hc_term.specs.TraceText.{words, line_of_step};
+ghost use Rattle.hc_term.specs.Ends.{ends_of};
 ghost use Rattle.hc_term.specs.TraceText as spec;
+ghost use Rattle.hc_trace.specs.EndsTable.{table_of};
 ghost use Rattle.hc_trace.specs.InRange.{StepInRange, StopInRange};
 ghost use Rattle.hc_trace.specs.Visible.{is_visible};
 
+use crate::ChannelEnds;
 use arrayvec::ArrayString;
 use hc_frac::Frac;
-use hc_term::{Item, Step, Stop, System, channel_ends};
+use hc_term::{Item, Step, Stop, System};
 
 /// The first line, with its newline.
 pub const HEADER: &[u8] = b"hcsp-trace 2\n";
@@ -21,9 +24,10 @@ pub fn header() -> &'static [u8]
 }
 
 /// The line of a step, with its newline, or `None` for a silent step that logs nothing. A communication names its
-/// channel, the process that sends and the one that receives.
-pub fn event_line(system: &System, item: &Item) -> Option<ArrayString<320>>
-    requires { StepInRange system.now item.now.step }
+/// channel, the process that sends and the one that receives, which are looked up among the ends of the system's channels.
+pub fn event_line(system: &System, ends: &ChannelEnds, item: &Item) -> Option<ArrayString<320>>
+    requires range { StepInRange system.now item.now.step }
+    requires ends { ends.now ≡ table_of system.now }
     ensures visible { IsSome result ↔ IsTrue (is_visible item.now.step) }
     ensures line { IfSome result (λ line. line.bytes ≡ line_of_step system.now item.now.at item.now.step) }
 {
@@ -39,9 +43,8 @@ pub fn event_line(system: &System, item: &Item) -> Option<ArrayString<320>>
         }
         Step::Comm { channel, value } => {
             let name = system.channels.as_slice()[channel as usize].text();
-            let ends = channel_ends(system, channel);
-            let sender = end_name(system, ends.sender);
-            let receiver = end_name(system, ends.receiver);
+            let sender = sender_name(system, ends, channel);
+            let receiver = receiver_name(system, ends, channel);
             let value = value.text();
             line_of(
                 clock.as_str(),
@@ -79,6 +82,26 @@ fn process_name(system: &System, process: u32) -> &str
     ensures short { length result.now ≤ 64 }
 {
     system.processes.as_slice()[process as usize].name.text()
+}
+
+/// The name of the process that sends on a channel, or no bytes where none does.
+fn sender_name<'a>(system: &'a System, ends: &ChannelEnds, channel: u32) -> &'a str
+    requires ends { ends.now ≡ table_of system.now }
+    requires channel { channel < length system.now.channels }
+    ensures name { result.now ≡ spec.end_name system.now (ends_of system.now channel).sender }
+    ensures short { length result.now ≤ 64 }
+{
+    end_name(system, ends.senders.as_slice()[channel as usize])
+}
+
+/// The name of the process that receives on a channel, or no bytes where none does.
+fn receiver_name<'a>(system: &'a System, ends: &ChannelEnds, channel: u32) -> &'a str
+    requires ends { ends.now ≡ table_of system.now }
+    requires channel { channel < length system.now.channels }
+    ensures name { result.now ≡ spec.end_name system.now (ends_of system.now channel).receiver }
+    ensures short { length result.now ≤ 64 }
+{
+    end_name(system, ends.receivers.as_slice()[channel as usize])
 }
 
 /// The name of the process at one end of a channel.

@@ -6,8 +6,8 @@ use Rattle.hc_joint.specs.Keeps.{GoesForward}
 use Rattle.hc_sim.proofs.Turning.{taken, slice_in_range, tells_turn, cuts_turn}
 use Rattle.hc_sim.proofs.simulating.tell_turn.Goals as goal
 
-pub put_lines-requires : goal.put_lines-requires
-put_lines-requires g c =
+pub put_lines-requires-clause-range : goal.put_lines-requires-clause-range
+put_lines-requires-clause-range g c =
     let old = c.args.joint.now in
     let new = c.forward.new.self in
     let told = c.history-told.result.now in

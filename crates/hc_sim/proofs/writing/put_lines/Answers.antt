@@ -7,9 +7,9 @@ use Rattle.hc_term.specs.TraceText.{lines}
 use Rattle.hc_sim.proofs.TextLemmas.{lines_next, lines_end}
 use Rattle.hc_sim.proofs.writing.put_lines.Goals as goal
 
-pub put_line-requires : goal.put_line-requires
-put_line-requires g c =
-    one_in_range c.args.system.now c.args.items.now c.loop-item.item-index c.item-item.result c.requires (omega arith) c.item-item.is
+pub put_line-requires-clause-range : goal.put_line-requires-clause-range
+put_line-requires-clause-range g c =
+    one_in_range c.args.system.now c.args.items.now c.loop-item.item-index c.item-item.result c.requires.range (omega arith) c.item-item.is
 
 pub returns-in_err-put_line : goal.returns-in_err-put_line
 returns-in_err-put_line g c =

@@ -14,8 +14,8 @@ returns-in_err-put_piece-clause-puts g c =
     let exit = err_from_is_err_and c.from_residual.result c.from_residual.ensures.1 in
     rw exit.1 (cut_in_header g.O.Sink.state c.args.out.now c.put_piece.new.sink s.task.system s.history c.in_err-put_piece.ensures)
 
-pub put_lines-requires : goal.put_lines-requires
-put_lines-requires g c =
+pub put_lines-requires-clause-range : goal.put_lines-requires-clause-range
+put_lines-requires-clause-range g c =
     let s = c.args.joint.now in
     let k = c.history-history.ensures.keeps in
     rw (c.task.ensures, c.history-history.ensures.items) (runs_are_in_range s.task s.history k.reached k.is_reached.leads)

@@ -1,0 +1,17 @@
+pub mod Saying
+pub mod Follows
+pub mod Fine
+pub mod Pieces
+pub mod Levels
+pub mod Known
+pub mod Joins
+pub mod Exprs
+pub mod Stmts
+pub mod Stages
+pub mod Parts
+pub mod Threads
+pub mod Names
+pub mod Wholes
+pub mod Sound
+pub mod Printed
+pub mod ReadsBack
