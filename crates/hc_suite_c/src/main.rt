@@ -1,5 +1,5 @@
 //! Answers rows of questions about texts of the subset of C, one a line: which program they are, or where they are refused, whether two
-//! are the same program; and about the lines of the prelude.
+//! are the same program, how it is written; and about the lines of the prelude.
 #![tactic(auto)]
 
 mod asking;
@@ -10,7 +10,7 @@ mod texts;
 
 use asking::Asked;
 use prelude_lines::prelude_line;
-use reading::{compared, read_unit, read_whole};
+use reading::{compared, read_unit, read_whole, written};
 use std::alloc::{AllocError, Global};
 use std::io;
 
@@ -19,6 +19,7 @@ fn answer_to_question(alloc: Global, kind: &str, asked: &Asked) -> Result<String
     match (kind, &asked.other) {
         ("read", None) => read_unit(alloc, &asked.text),
         ("prelude", None) => prelude_line(alloc, &asked.text),
+        ("write", None) => written(alloc, &asked.text),
         ("whole", None) => read_whole(alloc, &asked.text),
         ("same", Some(other)) => compared(alloc, &asked.text, other),
         _ => String::from_str(alloc, "unknown"),

@@ -7,6 +7,7 @@ use crate::showing::shown;
 use hc_cast::CProgram;
 use hc_cgrammar::{PRELUDE, Refusal};
 use hc_cread::{CStop, c_read};
+use hc_cwrite::{c_write, reading_back};
 use hc_limits::MOST_TEXT_BYTES;
 use std::alloc::{AllocError, Global};
 
@@ -58,4 +59,26 @@ pub(crate) fn compared(alloc: Global, unit: &[u8], other: &[u8]) -> Result<Strin
     let left = shown(alloc, &copy)?;
     let right = shown(alloc, &other)?;
     String::from_str(alloc, if left == right { "same" } else { "other" })
+}
+
+/// The canonical spelling of a unit's program, with `\n` for each newline, or `no program`.
+pub(crate) fn written(alloc: Global, unit: &[u8]) -> Result<String, AllocError> {
+    let text = behind_prelude(alloc, unit)?;
+    let Some(Ok(program)) = read(alloc, &text) else {
+        return String::from_str(alloc, "no program");
+    };
+    reading_back();
+    let canonical = c_write(alloc, &program)?;
+    let unit = canonical.strip_prefix(PRELUDE).unwrap_or(b"");
+    on_one_line(alloc, str::from_utf8(unit).unwrap_or(""))
+}
+
+/// A text with `\n` for each newline.
+fn on_one_line(alloc: Global, text: &str) -> Result<String, AllocError> {
+    let mut line = String::new(alloc);
+    for part in text.lines() {
+        line.push_str(part)?;
+        line.push_str("\\n")?;
+    }
+    Ok(line)
 }

@@ -1,0 +1,4 @@
+pub mod Called
+pub mod Growing
+pub mod Forms
+pub mod Making
