@@ -1,13 +1,15 @@
-//! Answers rows of questions to the runner, one a line: runs by threads beside the run without any, and two workers that
-//! wait for each other.
+//! Answers rows of questions to the runner, one a line: runs by threads beside the run without any, two workers that wait
+//! for each other, and what a run hands over on each channel.
 #![tactic(auto)]
 
+mod channels;
 mod meeting;
 mod tasks;
 mod texts;
 mod threads;
 mod trails;
 
+use channels::channels_of;
 use hc_term::Task;
 use meeting::meet_of;
 use std::alloc::{AllocError, Global};
@@ -28,6 +30,7 @@ fn answer_about<R: Threads + Wait + Sync>(
     match kind {
         "meet" => meet_of(rt, alloc, task),
         "trails" => Asked::of(Likeness::Trails, words).answer(rt, alloc, task),
+        "channels" => channels_of(alloc, task),
         "texts" => Asked::of(Likeness::Texts, words).answer(rt, alloc, task),
         _ => String::from_str(alloc, "unknown"),
     }

@@ -28,10 +28,15 @@ pub(crate) fn are_same_texts(
     Ok(one.bytes() == other.bytes())
 }
 
-/// The text of the run on one line, with `\n` for each newline.
-pub(crate) fn text_of(alloc: Global, joint: &Joint) -> Result<String, AllocError> {
-    let sink = written(alloc, joint)?;
-    str::from_utf8(sink.bytes())
+/// The text on one line, with `\n` for each newline.
+pub(crate) fn on_one_line(alloc: Global, text: &[u8]) -> Result<String, AllocError> {
+    str::from_utf8(text)
         .unwrap_or("no text")
         .replace(alloc, "\n", "\\n")
+}
+
+/// The text of the run on one line.
+pub(crate) fn text_of(alloc: Global, joint: &Joint) -> Result<String, AllocError> {
+    let sink = written(alloc, joint)?;
+    on_one_line(alloc, sink.bytes())
 }
