@@ -10,7 +10,7 @@ use Rattle.hc_frac.specs.Word.{word_byte}
 use Rattle.hc_scan.specs.declared.piece.Piece.{Piece}
 use Rattle.hc_scan.specs.Places.{after}
 use Rattle.hc_scan.specs.Tokens as scan
-use Rattle.hc_token.proofs.Found.{either}
+use Rattle.hc_token.proofs.Either.{either}
 use Rattle.hc_token.specs.declared.token.Lexeme as source
 use Rattle.hc_token.specs.declared.token.Lexeme.TheVariants as src
 use Rattle.hc_token.specs.Pieces.{is_blank}

@@ -1,7 +1,10 @@
 //! Keywords and signs, with their spelling.
 
-ghost use Rattle.std.specs.Prelude.{◌≡◌, ◌≤◌, map, length, IfSome};
+ghost use Rattle.std.specs.Prelude.{◌≡◌, ◌≤◌, ℕ, true, List, ◌∷◌, length, IfSome};
+ghost use Rattle.hc_scan.specs.Spelling as shape;
 ghost use Rattle.hc_ctoken.specs.Kinds as spec;
+
+use hc_scan::{HasSpelling, in_front, spelled};
 
 /// A token whose spelling is fixed: a keyword or a sign.
 #[derive(Clone, Copy, Debug, PartialEq, Eq)]
@@ -138,59 +141,23 @@ impl Fixed {
     }
 }
 
-const KEYWORDS: [Fixed; 18] = [
-    Fixed::Static,
-    Fixed::Int,
-    Fixed::Const,
-    Fixed::Char,
-    Fixed::Void,
-    Fixed::If,
-    Fixed::Else,
-    Fixed::While,
-    Fixed::Switch,
-    Fixed::Case,
-    Fixed::Break,
-    Fixed::Default,
-    Fixed::Return,
-    Fixed::ChanName,
-    Fixed::ProcName,
-    Fixed::HcThreads,
-    Fixed::Main,
-    Fixed::HcMain,
-];
+impl HasSpelling for Fixed {
+    ghost spelling = { spec.text_of };
 
-/// The longer ones first.
-const SIGNS: [Fixed; 22] = [
-    Fixed::BarBar,
-    Fixed::AndAnd,
-    Fixed::LessEqual,
-    Fixed::GreaterEqual,
-    Fixed::EqualEqual,
-    Fixed::NotEqual,
-    Fixed::OpenRound,
-    Fixed::CloseRound,
-    Fixed::OpenCurly,
-    Fixed::CloseCurly,
-    Fixed::OpenSquare,
-    Fixed::CloseSquare,
-    Fixed::Less,
-    Fixed::Greater,
-    Fixed::Comma,
-    Fixed::Semicolon,
-    Fixed::Colon,
-    Fixed::Equal,
-    Fixed::Exclamation,
-    Fixed::Plus,
-    Fixed::Minus,
-    Fixed::Star,
-];
+    fn text(self) -> &'static [u8] {
+        Fixed::text(self)
+    }
+}
 
 /// The keyword that is spelled so, if there is one.
 #[tactic(auto, unfolding(crate::specs::Kinds::keyword, crate::specs::Kinds::keywords))]
 pub(crate) fn keyword(word: &[u8]) -> Option<Fixed>
     ensures { result ≡ spec.keyword word.now }
 {
-    spelled(&KEYWORDS, word)
+    match word {
+        [] => None,
+        [first, ..] => spelled(keywords_from(*first), word),
+    }
 }
 
 /// The longest sign that the text begins with, if there is one, and its length in bytes.
@@ -200,31 +167,59 @@ pub(crate) fn sign(text: &[u8]) -> Option<(Fixed, usize)>
     ensures not_empty { IfSome result (λ s. 1 ≤ s.1) }
     ensures within { IfSome result (λ s. s.1 ≤ length text.now) }
 {
-    in_front(&SIGNS, text)
+    match text {
+        [] => None,
+        [first, ..] => in_front(signs_from(*first), text),
+    }
 }
 
-/// The first of a list that is spelled so.
-fn spelled(words: &[Fixed], word: &[u8]) -> Option<Fixed>
-    ensures { result ≡ spec.spelled (map spec.with_text words.now) word.now }
+/// The keywords that begin with a byte.
+#[tactic(auto, unfolding(crate::specs::Kinds::keyword, crate::specs::Kinds::keywords))]
+fn keywords_from(first: u8) -> &'static [Fixed]
+    ensures { (rest : List ℕ) → shape.spelled spec.text_of result.now (first ∷ rest) ≡ spec.keyword (first ∷ rest) }
 {
-    for one in words {
-        if one.text() == word {
-            return Some(*one);
-        }
+    match first {
+        b's' => &[Fixed::Static, Fixed::Switch],
+        b'i' => &[Fixed::Int, Fixed::If],
+        b'c' => &[Fixed::Const, Fixed::Char, Fixed::Case, Fixed::ChanName],
+        b'v' => &[Fixed::Void],
+        b'e' => &[Fixed::Else],
+        b'w' => &[Fixed::While],
+        b'b' => &[Fixed::Break],
+        b'd' => &[Fixed::Default],
+        b'r' => &[Fixed::Return],
+        b'p' => &[Fixed::ProcName],
+        b'h' => &[Fixed::HcThreads, Fixed::HcMain],
+        b'm' => &[Fixed::Main],
+        _ => &[],
     }
-    None
 }
 
-/// The first of a list with whose spelling the text begins, and the length of that in bytes.
-fn in_front(words: &[Fixed], text: &[u8]) -> Option<(Fixed, usize)>
-    ensures first { result ≡ spec.in_front (map spec.with_text words.now) text.now }
-    ensures within { IfSome result (λ s. s.1 ≤ length text.now) }
+/// The signs that begin with a byte, the longer ones first.
+#[tactic(auto, unfolding(crate::specs::Kinds::sign, crate::specs::Kinds::signs))]
+fn signs_from(first: u8) -> &'static [Fixed]
+    ensures has_bytes { shape.have_bytes spec.text_of result.now ≡ true }
+    ensures first { (rest : List ℕ) → shape.in_front spec.text_of result.now (first ∷ rest) ≡ spec.sign (first ∷ rest) }
 {
-    for one in words {
-        let spelling = one.text();
-        if text.starts_with(spelling) {
-            return Some((*one, spelling.len()));
-        }
+    match first {
+        b'|' => &[Fixed::BarBar],
+        b'&' => &[Fixed::AndAnd],
+        b'<' => &[Fixed::LessEqual, Fixed::Less],
+        b'>' => &[Fixed::GreaterEqual, Fixed::Greater],
+        b'=' => &[Fixed::EqualEqual, Fixed::Equal],
+        b'!' => &[Fixed::NotEqual, Fixed::Exclamation],
+        b'(' => &[Fixed::OpenRound],
+        b')' => &[Fixed::CloseRound],
+        b'{' => &[Fixed::OpenCurly],
+        b'}' => &[Fixed::CloseCurly],
+        b'[' => &[Fixed::OpenSquare],
+        b']' => &[Fixed::CloseSquare],
+        b',' => &[Fixed::Comma],
+        b';' => &[Fixed::Semicolon],
+        b':' => &[Fixed::Colon],
+        b'+' => &[Fixed::Plus],
+        b'-' => &[Fixed::Minus],
+        b'*' => &[Fixed::Star],
+        _ => &[],
     }
-    None
 }

@@ -7,7 +7,7 @@ use Rattle.std.specs.Str.Parse.{digits_value}
 use Rattle.std.proofs.lemmas.Bool.Decides.{nat_tests}
 use Rattle.hc_frac.specs.Word.{word_byte}
 use Rattle.hc_scan.specs.declared.piece.Piece.{Piece}
-use Rattle.hc_token.proofs.Found.{either}
+use Rattle.hc_token.proofs.Either.{either}
 use Rattle.hc_token.proofs.Runs.{all_of_run}
 use Rattle.hc_token.specs.declared.fixed.Fixed as source_fixed
 use Rattle.hc_token.specs.declared.token.Lexeme as source

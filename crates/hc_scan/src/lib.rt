@@ -3,6 +3,8 @@
 
 mod piece;
 mod scanner;
+mod spelling;
 
 pub use piece::Piece;
 pub use scanner::{Lexer, Scanner};
+pub use spelling::{HasSpelling, in_front, spelled};

@@ -26,7 +26,7 @@ use Rattle.hc_token.specs.Numbers.{front_digits, places_digits, said, number_of}
 use Rattle.hc_token.specs.Pieces.{is_blank, in_comment, gap, word_piece, number_piece, sign_piece, piece}
 use Rattle.hc_token.specs.Tokens.{token_at, tokens_from, AreEnded}
 use Rattle.hc_token.specs.Ranged.{ranged}
-use Rattle.hc_token.proofs.Found.{either}
+use Rattle.hc_token.proofs.Either.{either}
 
 -- whether a kind isn't that of the end
 abbrev pub goes_on : Kind → Bool

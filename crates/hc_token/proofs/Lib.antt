@@ -3,6 +3,5 @@ pub mod Fronts
 pub mod Values
 pub mod Ranges
 pub mod Digits
-pub mod Found
-pub mod Signs
+pub mod Either
 pub mod Ended

@@ -1,8 +1,6 @@
 -- Keywords and signs, and how each is spelled.
-use Rattle.std.specs.Prelude.{ℕ, List, [], ◌∷◌, map, length, Option, find, codes, nat_eq}
-use Rattle.std.specs.List.{starts_with}
-use Rattle.std.specs.Option.{option_map}
-use Rattle.std.specs.Cmp.Lexicographic.{pointwise}
+use Rattle.std.specs.Prelude.{ℕ, List, [], ◌∷◌, Option, codes}
+use Rattle.hc_scan.specs.Spelling.{spelled, in_front}
 use Rattle.hc_token.specs.declared.fixed.Fixed.{Fixed}
 use Rattle.hc_token.specs.declared.fixed.Fixed.TheVariants as fix
 
@@ -57,41 +55,24 @@ text_of fix.Minus = codes "-"
 text_of fix.Star = codes "*"
 text_of fix.Slash = codes "/"
 
--- a spelling, and what is spelled so
-abbrev pub Spelled : Type 0
-Spelled = List ℕ × Fixed
-
-abbrev pub with_text : Fixed → Spelled
-with_text one = (text_of one, one)
-
 -- the keywords
-unfoldable pub keywords : List Spelled
+unfoldable pub keywords : List Fixed
 keywords =
-    map with_text
-    (fix.Module ∷ fix.EndModule ∷ fix.Begin ∷ fix.EndBody ∷ fix.System ∷ fix.EndSystem ∷ fix.Ch ∷ fix.Val ∷ fix.Skip ∷ fix.Wait ∷ fix.Log
-    ∷ fix.If ∷ fix.Then ∷ fix.Else ∷ fix.EndIf ∷ fix.True ∷ fix.False ∷ [])
+    fix.Module ∷ fix.EndModule ∷ fix.Begin ∷ fix.EndBody ∷ fix.System ∷ fix.EndSystem ∷ fix.Ch ∷ fix.Val ∷ fix.Skip ∷ fix.Wait ∷ fix.Log
+    ∷ fix.If ∷ fix.Then ∷ fix.Else ∷ fix.EndIf ∷ fix.True ∷ fix.False ∷ []
 
 -- the signs, the longer ones first
-unfoldable pub signs : List Spelled
+unfoldable pub signs : List Fixed
 signs =
-    map with_text
-    (fix.Arrow ∷ fix.ColonEqual ∷ fix.BarBar ∷ fix.BarGreater ∷ fix.PlusPlus ∷ fix.StarStar ∷ fix.EmptySquare ∷ fix.AndAnd
+    fix.Arrow ∷ fix.ColonEqual ∷ fix.BarBar ∷ fix.BarGreater ∷ fix.PlusPlus ∷ fix.StarStar ∷ fix.EmptySquare ∷ fix.AndAnd
     ∷ fix.LessEqual ∷ fix.GreaterEqual ∷ fix.EqualEqual ∷ fix.NotEqual
     ∷ fix.OpenRound ∷ fix.CloseRound ∷ fix.OpenCurly ∷ fix.CloseCurly ∷ fix.OpenSquare ∷ fix.CloseSquare ∷ fix.Less ∷ fix.Greater
-    ∷ fix.Comma ∷ fix.Semicolon ∷ fix.Colon ∷ fix.Equal ∷ fix.And ∷ fix.Exclamation ∷ fix.Question ∷ fix.Plus ∷ fix.Minus ∷ fix.Star ∷ fix.Slash ∷ [])
-
--- what a word is in a table, if it stands there
-abbrev pub spelled : List Spelled → List ℕ → Option Fixed
-spelled table w = option_map (λ s. s.1) (find (λ s. pointwise nat_eq s.0 w) table)
-
--- the first spelling of a table that the text begins with, if there is one: what it is and its length
-abbrev pub in_front : List Spelled → List ℕ → Option (Fixed × ℕ)
-in_front table z = option_map (λ s. (s.1, length s.0)) (find (λ s. starts_with nat_eq z s.0) table)
+    ∷ fix.Comma ∷ fix.Semicolon ∷ fix.Colon ∷ fix.Equal ∷ fix.And ∷ fix.Exclamation ∷ fix.Question ∷ fix.Plus ∷ fix.Minus ∷ fix.Star ∷ fix.Slash ∷ []
 
 -- the keyword that a word is, if it is one
 unfoldable pub keyword : List ℕ → Option Fixed
-keyword w = spelled keywords w
+keyword w = spelled text_of keywords w
 
 -- the longest sign that the text begins with
 unfoldable pub sign : List ℕ → Option (Fixed × ℕ)
-sign z = in_front signs z
+sign z = in_front text_of signs z
