@@ -1,0 +1,6 @@
+pub mod Routes
+pub mod Seen
+pub mod Stops
+pub mod Tails
+pub mod Upgraded
+pub mod Written
