@@ -1,13 +1,11 @@
 -- What follows from what the words and the source give, in any call whose answers are answers.
-use Rattle.std.proofs.Common.{◌≡◌, ◌≢◌, ℕ, true, false, List, [], ◌⊎◌, inl, inr, refl, sym, ap, subst, ◌∙◌}
+use Rattle.std.proofs.Common.{◌≡◌, ◌≢◌, ℕ, false, List, [], ◌⊎◌, inl, inr, refl, sym, ap, subst, ◌∙◌}
 use Rattle.hc_world.specs.Counts.{Rose}
 use Rattle.hc_world.specs.Sinks.{IsWhole}
 use Rattle.hc_world.specs.States.{SourceState, SinkState}
-use Rattle.hc_cmd.specs.declared.refusal.Refusal.TheVariants.{Usage, Unread, Memory, TooLong}
 use Rattle.hc_cmd.specs.Reply.{Reply, Stands, whole, out_failed, err_failed}
-use Rattle.hc_cmd.specs.Refusals.{refused}
 use Rattle.hc_cmd.specs.Calls.{Call, AsksNothing, IsReplyTo, without_source, answered, too_long, Replies, usage, no_memory, unread, replied, IsComplete}
-use Rattle.hc_cmd.proofs.Statuses.{is_done, is_refusal, IsAnswer, does, refuses, not_other, nothing_out}
+use Rattle.hc_cmd.proofs.Statuses.{is_done, IsAnswer, refuses, not_other, nothing_out}
 use Rattle.hc_cmd.proofs.StandsLemmas.{counts_kept, no_output, rose_at_4, whole_without_fault}
 
 -- words ask for one thing at most, and what is answered is an answer

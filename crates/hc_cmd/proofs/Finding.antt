@@ -24,12 +24,11 @@ use Rattle.hc_term.specs.declared.system.System.{System}
 use Rattle.hc_cmd.specs.declared.refusal.Refusal.{Refusal}
 use Rattle.hc_cmd.specs.declared.refusal.Refusal.TheVariants.{Usage, Unread, Memory, TooLong, Unparsed, Unexpanded, Unchecked}
 use Rattle.std.specs.Result.{IsErrAnd}
-use Rattle.hc_limits.specs.Limits.{most_source_bytes}
 use Rattle.hc_cmd.specs.declared.prepared.Prepared.{Prepared}
 use Rattle.hc_cmd.specs.Reply.{Reply}
 use Rattle.hc_cmd.specs.Refusals.{refused}
 use Rattle.hc_cmd.specs.Answers.{OfText, no_source, source, OfTree, unexpanded, unchecked, accepted, OfSource, done}
-use Rattle.hc_cmd.specs.Prepared.{Accepts, FindsTree, Prepares, Readies, GivesNone}
+use Rattle.hc_cmd.specs.Prepared.{Accepts, FindsTree, reply_to, IsReady, Prepares, Readies, GivesNone}
 
 -- want of memory, or one of these replies
 abbrev pub MemoryOr : (Reply → Type 0) → Refusal → Type 0
@@ -158,6 +157,12 @@ check_failed text tree flat (Err s) (Err q) r is from stops e f =
 -- a refusal that ends the preparing
 pub refusal_prepares : (Gives : Reply → Type 0) (result : Result Prepared Refusal) (r : Refusal) → result ≡ Err r → MemoryOr Gives r → Prepares Gives result
 refusal_prepares Gives result r e is = subst (Prepares Gives) (sym e) is
+
+-- what is ready for this reply, or want of memory
+pub prepared_so : (G : Reply → Type 0) (told : Reply) (result : Result Prepared Refusal) → G told →
+    MatchResult result (λ p. IsReady p × (reply_to p ≡ told)) (λ r. r ≡ Memory) → Prepares G result
+prepared_so G told (Ok p) given is = (is.0, subst G (sym is.1) given)
+prepared_so G told (Err r) given is = inl (ap refused is)
 
 -- texts that are equal are the same on output
 pub done_so : (a b : List ℕ) → a ≡ b → done a ≡ done b

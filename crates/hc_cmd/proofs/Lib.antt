@@ -4,5 +4,5 @@ pub mod Statuses
 pub mod Calling
 pub mod OneReply
 pub mod RunReplies
-pub mod MadeRuns
+pub mod Courses
 pub mod Reports

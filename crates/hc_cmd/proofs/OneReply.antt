@@ -17,20 +17,22 @@ use Rattle.hc_check.specs.Checked.{IsChecked}
 use Rattle.hc_check.specs.Checked as checks
 use Rattle.hc_check.specs.Laws.{OneSystem, CheckedIsNotRefused}
 use Rattle.hc_check.specs.Laws as systems
+use Rattle.hc_term.specs.declared.run.Item.{Item}
+use Rattle.hc_term.specs.declared.run.Stop.{Stop}
 use Rattle.hc_term.specs.declared.system.System.{System}
 use Rattle.hc_term.specs.declared.task.Task.{Task}
 use Rattle.hc_term.specs.Canonical.{canonical}
 use Rattle.hc_term.specs.Given.{HasParts}
 use Rattle.hc_term.specs.Laws.{CanonicalIsBehaviour}
 use Rattle.hc_words.specs.declared.requests.Request.{Request}
-use Rattle.hc_words.specs.declared.requests.Request.TheVariants.{Check, Print, Simulate, Make}
+use Rattle.hc_words.specs.declared.requests.Request.TheVariants.{Check, Print, Simulate, Channels, Make}
 use Rattle.hc_words.specs.declared.settings.Made.{Made}
 use Rattle.hc_words.specs.declared.settings.Settings.{Settings}
 use Rattle.hc_words.proofs.OneRequest.{one_request}
 use Rattle.hc_cmd.specs.declared.refusal.Refusal.TheVariants.{Unexpanded, Unchecked}
 use Rattle.hc_cmd.specs.Reply.{Reply}
 use Rattle.hc_cmd.specs.Refusals.{refused, refused_at}
-use Rattle.hc_cmd.specs.Answers.{OfText, no_source, source, OfTree, unexpanded, unchecked, accepted, OfSource, Simulates, SumsUp, Answers, answering, simulated, done}
+use Rattle.hc_cmd.specs.Answers.{OfText, no_source, source, OfTree, unexpanded, unchecked, accepted, OfSource, OfTask, SumsUp, Answers, answering, telling, done}
 use Rattle.hc_cmd.specs.Made.{IsMadeTask, line_of}
 use Rattle.hc_cmd.specs.Laws.{CountsBehaviour, TellsBehaviour}
 use Rattle.hc_cmd.proofs.Calling.{IsWell}
@@ -63,14 +65,14 @@ same_task t u system seed horizon limit = by t.system t.seed t.horizon t.limit s
         subst (λ s. Same s m q n) (sym is_system) (subst (λ m. Same u.system m q n) (sym is_seed)
         (subst (λ q. Same u.system u.seed q n) (sym is_horizon) (subst (λ n. Same u.system u.seed u.horizon n) (sym is_limit) here)))
 
-one_task : (system : System) (seed : ℕ) (horizon : Rational) (limit : ℕ) (t u : Task) → HasParts system seed horizon limit t → HasParts system seed horizon limit u → t ≡ u
+pub one_task : (system : System) (seed : ℕ) (horizon : Rational) (limit : ℕ) (t u : Task) → HasParts system seed horizon limit t → HasParts system seed horizon limit u → t ≡ u
 one_task system seed horizon limit t u is of =
     same_task t u (is.same_system ∙ sym of.same_system) (is.same_seed ∙ sym of.same_seed) (is.same_horizon ∙ sym of.same_horizon) (is.same_limit ∙ sym of.same_limit)
 
--- a system with its settings gives one reply
-one_simulation : (settings : Settings) (system : System) (r s : Reply) → Simulates settings system r → Simulates settings system s → r ≡ s
-one_simulation settings system r s a b =
-    a.stands ∙ ap simulated (one_task system settings.seed settings.horizon settings.limit a.task b.task a.parts b.parts) ∙ sym b.stands
+-- what is told of the task of a system with its settings is one reply
+one_told : (told : Task → Reply) (settings : Settings) (system : System) (r s : Reply) → OfTask told settings system r → OfTask told settings system s → r ≡ s
+one_told told settings system r s a b =
+    a.stands ∙ ap told (one_task system settings.seed settings.horizon settings.limit a.task b.task a.parts b.parts) ∙ sym b.stands
 
 -- and so does the system of a made source
 one_sum : (made : Made) (system : System) (r s : Reply) → SumsUp made system r → SumsUp made system s → r ≡ s
@@ -131,7 +133,8 @@ module _ (d : Decided) where
   pub one_answer : (request : Request) (text : List ℕ) (r s : Reply) → Answers request text r → Answers request text s → r ≡ s
   one_answer Check text r s a b = source_decides _ (λ flat system r s e f. e ∙ sym f) text r s a b
   one_answer Print text r s a b = text_decides _ (λ tree r s e f. e ∙ sym f) text r s a b
-  one_answer (Simulate settings) text r s a b = source_decides _ (λ flat system r s x y. one_simulation settings system r s x y) text r s a b
+  one_answer (Simulate settings) text r s a b = source_decides _ (λ flat system r s x y. one_told _ settings system r s x y) text r s a b
+  one_answer (Channels settings) text r s a b = source_decides _ (λ flat system r s x y. one_told _ settings system r s x y) text r s a b
   one_answer (Make made) text r s a b = source_decides _ (λ flat system r s x y. one_sum made system r s x y) _ r s a b
 
   -- ---- accepted texts
@@ -156,21 +159,22 @@ module _ (d : Decided) where
 
 -- ---- the headline
 
--- what is simulated is the whole text of a behaviour
-tells : CanonicalIsBehaviour → (task : Task) (reply : Reply) → reply ≡ simulated task → TellsBehaviour task reply
-tells canonical_is task reply e = record {
-  items = (canonical task).items;
-  end = (canonical task).end;
-  stop = (canonical task).stop;
-  behaviour = canonical_is task;
-  out = ap (λ (r : Reply). r.out) e;
-  err = ap (λ (r : Reply). r.err) e;
-  status = ap (λ (r : Reply). r.status) e;
-}
+-- what is told of the canonical run is told of a behaviour
+module _ (canonical_is : CanonicalIsBehaviour) (text : System → List Item → Rational → Stop → List ℕ) where
+  tells : (task : Task) (reply : Reply) → reply ≡ telling text task → TellsBehaviour text task reply
+  tells task reply e = record {
+    items = (canonical task).items;
+    end = (canonical task).end;
+    stop = (canonical task).stop;
+    behaviour = canonical_is task;
+    out = ap (λ (r : Reply). r.out) e;
+    err = ap (λ (r : Reply). r.err) e;
+    status = ap (λ (r : Reply). r.status) e;
+  }
 
-pub simulation_tells : CanonicalIsBehaviour → (settings : Settings) (system : System) (reply : Reply) → Simulates settings system reply →
-    (task : Task) × HasParts system settings.seed settings.horizon settings.limit task × TellsBehaviour task reply
-simulation_tells canonical_is settings system reply s = (s.task, s.parts, tells canonical_is s.task reply s.stands)
+  pub task_tells : (settings : Settings) (system : System) (reply : Reply) → OfTask (telling text) settings system reply →
+      (task : Task) × HasParts system settings.seed settings.horizon settings.limit task × TellsBehaviour text task reply
+  task_tells settings system reply s = (s.task, s.parts, tells s.task reply s.stands)
 
 pub made_tells : CanonicalIsBehaviour → (made : Made) (system : System) (reply : Reply) → SumsUp made system reply →
     (task : Task) × IsMadeTask system task × CountsBehaviour made.pairs task reply

@@ -7,16 +7,20 @@ use Rattle.hc_modules.specs.declared.flat.ModuleStop.{ModuleStop}
 use Rattle.hc_modules.specs.declared.flat.ModuleStop.TheVariants as expanding
 use Rattle.hc_finds.specs.declared.stop.CheckStop.{CheckStop}
 use Rattle.hc_finds.specs.declared.stop.CheckStop.TheVariants as check
+use Rattle.hc_rational.specs.Words.{Rational}
+use Rattle.hc_term.specs.declared.run.Item.{Item}
 use Rattle.hc_term.specs.declared.run.Stop.{Stop}
 use Rattle.hc_term.specs.declared.run.Stop.TheVariants.{Terminated, Deadlock, Horizon, Limit, Overflow}
 use Rattle.hc_term.specs.declared.system.System.{System}
 use Rattle.hc_term.specs.Canonical.{canonical}
+use Rattle.hc_term.specs.TraceText.{whole}
+use Rattle.hc_det.specs.Text.{channels_text}
 use Rattle.hc_words.specs.declared.requests.Request.{Request}
-use Rattle.hc_words.specs.declared.requests.Request.TheVariants.{Check, Print, Simulate, Make}
+use Rattle.hc_words.specs.declared.requests.Request.TheVariants.{Check, Print, Simulate, Channels, Make}
 use Rattle.hc_words.specs.declared.settings.Settings.{Settings}
 use Rattle.hc_cmd.specs.Reply.{Reply}
 use Rattle.hc_cmd.specs.Refusals.{status_of_module_stop, status_of_check_stop}
-use Rattle.hc_cmd.specs.Answers.{OfText, no_source, source, OfTree, unexpanded, unchecked, accepted, OfSource, Simulates, Answers, status_at}
+use Rattle.hc_cmd.specs.Answers.{OfText, no_source, source, OfTree, unexpanded, unchecked, accepted, OfSource, OfTask, Answers, status_at, telling}
 
 -- what is done ends with one of these
 abbrev pub is_done : ℕ → Bool
@@ -97,11 +101,13 @@ pub source_answers : (G : Flat → System → Reply → Type 0) (text : List ℕ
     OfSource G text reply → IsAnswer reply
 source_answers G text reply given a = text_answers (OfTree G) text reply (λ tree. tree_answers G tree reply given) a
 
-simulation_answers : (settings : Settings) (system : System) (reply : Reply) → Simulates settings system reply → IsAnswer reply
-simulation_answers settings system reply s = same_answer reply _ s.stands (does (status_is_done (canonical s.task).stop))
+task_answers : (text : System → List Item → Rational → Stop → List ℕ) (settings : Settings) (system : System) (reply : Reply) →
+    OfTask (telling text) settings system reply → IsAnswer reply
+task_answers text settings system reply s = same_answer reply _ s.stands (does (status_is_done (canonical s.task).stop))
 
 pub is_answer : (request : Request) (text : List ℕ) (reply : Reply) → Answers request text reply → IsAnswer reply
 is_answer Check text reply a = source_answers _ text reply (λ flat system e. same_answer reply _ e (does refl)) a
 is_answer Print text reply a = text_answers _ text reply (λ tree e. same_answer reply _ e (does refl)) a
-is_answer (Simulate settings) text reply a = source_answers _ text reply (λ flat system s. simulation_answers settings system reply s) a
+is_answer (Simulate settings) text reply a = source_answers _ text reply (λ flat system s. task_answers whole settings system reply s) a
+is_answer (Channels settings) text reply a = source_answers _ text reply (λ flat system s. task_answers channels_text settings system reply s) a
 is_answer (Make made) text reply a = source_answers _ _ reply (λ flat system s. same_answer reply _ s.stands (does refl)) a

@@ -13,6 +13,8 @@ use Rattle.hc_modules.specs.Refusals as modules
 use Rattle.hc_finds.specs.declared.stop.CheckStop.{CheckStop}
 use Rattle.hc_check.specs.Checked.{IsChecked}
 use Rattle.hc_check.specs.Checked as checks
+use Rattle.hc_rational.specs.Words.{Rational}
+use Rattle.hc_term.specs.declared.run.Item.{Item}
 use Rattle.hc_term.specs.declared.run.Stop.{Stop}
 use Rattle.hc_term.specs.declared.run.Stop.TheVariants.{Terminated, Deadlock, Horizon, Limit, Overflow}
 use Rattle.hc_term.specs.declared.system.System.{System}
@@ -20,9 +22,10 @@ use Rattle.hc_term.specs.declared.task.Task.{Task}
 use Rattle.hc_term.specs.Given.{HasParts}
 use Rattle.hc_term.specs.Canonical.{canonical}
 use Rattle.hc_term.specs.TraceText as trace
+use Rattle.hc_det.specs.Text.{channels_text}
 use Rattle.hc_make.specs.Made.{made_text}
 use Rattle.hc_words.specs.declared.requests.Request.{Request}
-use Rattle.hc_words.specs.declared.requests.Request.TheVariants.{Check, Print, Simulate, Make}
+use Rattle.hc_words.specs.declared.requests.Request.TheVariants.{Check, Print, Simulate, Channels, Make}
 use Rattle.hc_words.specs.declared.settings.Made.{Made}
 use Rattle.hc_words.specs.declared.settings.Settings.{Settings}
 use Rattle.hc_words.specs.Requests.{Ask}
@@ -69,17 +72,25 @@ status_at Deadlock = 10
 status_at (Overflow p) = 11
 status_at Limit = 12
 
--- the whole text of the task's canonical run with its stop, and the stop's status
-abbrev pub simulated : Task → Reply
-simulated t =
+-- a text of the task's canonical run with its stop, and the stop's status
+abbrev pub telling : (System → List Item → Rational → Stop → List ℕ) → Task → Reply
+telling text t =
     let run = canonical t in
-    record { status = status_at run.stop; out = trace.whole t.system run.items run.end.clock run.stop; err = [] }
+    record { status = status_at run.stop; out = text t.system run.items run.end.clock run.stop; err = [] }
 
--- what simulating a system with these settings lets stand
-pub record Simulates (settings : Settings) (system : System) (reply : Reply) : Type 0 where
+-- its whole trace
+abbrev pub simulated : Task → Reply
+simulated = telling trace.whole
+
+-- what it hands over on each channel
+abbrev pub listed : Task → Reply
+listed = telling channels_text
+
+-- what is told of the task of a system with these settings
+pub record OfTask (told : Task → Reply) (settings : Settings) (system : System) (reply : Reply) : Type 0 where
   pub task : Task
   pub parts : HasParts system settings.seed settings.horizon settings.limit task
-  pub stands : reply ≡ simulated task
+  pub stands : reply ≡ told task
 
 -- what a made source with its system lets stand: the line that tells of its run
 pub record SumsUp (made : Made) (system : System) (reply : Reply) : Type 0 where
@@ -91,7 +102,8 @@ pub record SumsUp (made : Made) (system : System) (reply : Reply) : Type 0 where
 abbrev pub Answers : Request → List ℕ → Reply → Type 0
 Answers Check = OfSource (λ flat system reply. reply ≡ done (size_of flat system))
 Answers Print = OfText (λ tree reply. reply ≡ done (canonical_spelling tree))
-Answers (Simulate settings) = OfSource (λ flat. Simulates settings)
+Answers (Simulate settings) = OfSource (λ flat. OfTask simulated settings)
+Answers (Channels settings) = OfSource (λ flat. OfTask listed settings)
 Answers (Make made) = λ text. OfSource (λ flat. SumsUp made) (made_text made.pairs made.seed)
 
 -- all but `make` read a source

@@ -1,18 +1,23 @@
 -- What holds of all texts.
-use Rattle.std.specs.Prelude.{◌≡◌, ◌+◌, ℕ, List, [], length, min, sum, Some}
+use Rattle.std.specs.Prelude.{◌≡◌, ◌+◌, ℕ, Bool, true, false, List, [], length, min, sum, Some}
 use Rattle.hc_make.specs.Made.{made_text}
 use Rattle.hc_check.specs.Accepted.{IsAccepted}
+use Rattle.hc_rational.specs.Words.{Rational}
 use Rattle.hc_term.specs.declared.run.Item.{Item}
 use Rattle.hc_term.specs.declared.run.Stop.{Stop}
 use Rattle.hc_term.specs.declared.model.Configuration.{Configuration}
 use Rattle.hc_term.specs.declared.system.System.{System}
 use Rattle.hc_term.specs.declared.task.Task.{Task}
+use Rattle.hc_term.specs.Canonical.{canonical}
 use Rattle.hc_term.specs.Given.{HasParts}
 use Rattle.hc_term.specs.Stop.{IsBehaviour}
 use Rattle.hc_term.specs.TraceText.{whole}
 use Rattle.hc_runs.specs.Turns.{Turns}
+use Rattle.hc_order.specs.Determinate.{is_determinate}
+use Rattle.hc_order.specs.Laws.{IsSettled}
+use Rattle.hc_det.specs.Text.{channels_text}
 use Rattle.hc_words.specs.declared.requests.Request.{Request}
-use Rattle.hc_words.specs.declared.requests.Request.TheVariants.{Check, Simulate, Make}
+use Rattle.hc_words.specs.declared.requests.Request.TheVariants.{Check, Simulate, Channels, Make}
 use Rattle.hc_words.specs.declared.settings.Made.{Made}
 use Rattle.hc_words.specs.declared.settings.RunRequest.{RunRequest}
 use Rattle.hc_words.specs.declared.settings.Settings.{Settings}
@@ -35,13 +40,13 @@ AcceptedIsSized =
     (text : List ℕ) (system : System) (reply : Reply) (accepted : IsAccepted text system) → Answers Check text reply →
     reply ≡ done (size_of accepted.flat system)
 
--- on output stands the whole text of a behaviour of the task, and the status is that of its stop
-pub record TellsBehaviour (task : Task) (reply : Reply) : Type 0 where
+-- on output stands this text of a behaviour of the task, and the status is that of its stop
+pub record TellsBehaviour (text : System → List Item → Rational → Stop → List ℕ) (task : Task) (reply : Reply) : Type 0 where
   pub items : List Item
   pub end : Configuration
   pub stop : Stop
   pub behaviour : IsBehaviour task items end stop
-  pub out : reply.out ≡ whole task.system items end.clock stop
+  pub out : reply.out ≡ text task.system items end.clock stop
   pub err : reply.err ≡ []
   pub status : reply.status ≡ status_at stop
 
@@ -50,7 +55,13 @@ pub record TellsBehaviour (task : Task) (reply : Reply) : Type 0 where
 abbrev pub SimulationIsBehaviour : Type 0
 SimulationIsBehaviour =
     (settings : Settings) (text : List ℕ) (system : System) (reply : Reply) → IsAccepted text system → Answers (Simulate settings) text reply →
-    (task : Task) × HasParts system settings.seed settings.horizon settings.limit task × TellsBehaviour task reply
+    (task : Task) × HasParts system settings.seed settings.horizon settings.limit task × TellsBehaviour whole task reply
+
+-- What `channels` writes of an accepted text is what such a behaviour hands over on each channel, with the status of its stop.
+abbrev pub ListingIsBehaviour : Type 0
+ListingIsBehaviour =
+    (settings : Settings) (text : List ℕ) (system : System) (reply : Reply) → IsAccepted text system → Answers (Channels settings) text reply →
+    (task : Task) × HasParts system settings.seed settings.horizon settings.limit task × TellsBehaviour channels_text task reply
 
 -- on output stands the line that tells of a behaviour of the task
 pub record CountsBehaviour (pairs : ℕ) (task : Task) (reply : Reply) : Type 0 where
@@ -66,15 +77,20 @@ MadeIsBehaviour =
     (made : Made) (text : List ℕ) (system : System) (reply : Reply) → IsAccepted (made_text made.pairs made.seed) system → Answers (Make made) text reply →
     (task : Task) × IsMadeTask system task × CountsBehaviour made.pairs task reply
 
--- On output stands the whole text of a behaviour of the task, and the status is that of its stop. On error stand, where they are
--- asked for, the numbers of its events: there is one for each worker that counts, and with the caller's they add up to the events
+-- the text of a behaviour that is asked for: its whole trace, or what it hands over on each channel
+abbrev pub text_asked : Bool → System → List Item → Rational → Stop → List ℕ
+text_asked false = whole
+text_asked true = channels_text
+
+-- On output stands the text of a behaviour of the task that is asked for, and the status is that of its stop. On error stand, where
+-- they are asked for, the numbers of its events: there is one for each worker that counts, and with the caller's they add up to the events
 -- of which the behaviour is made.
 pub record RunsBehaviour (asked : RunRequest) (task : Task) (reply : Reply) : Type 0 where
   pub items : List Item
   pub end : Configuration
   pub stop : Stop
   pub behaviour : IsBehaviour task items end stop
-  pub out : reply.out ≡ whole task.system items end.clock stop
+  pub out : reply.out ≡ text_asked asked.channels task.system items end.clock stop
   pub status : reply.status ≡ status_at stop
   pub recomputed : ℕ
   pub turns : List ℕ
@@ -84,8 +100,19 @@ pub record RunsBehaviour (asked : RunRequest) (task : Task) (reply : Reply) : Ty
   pub err : reply.err ≡ report_for asked.report recomputed turns own
 
 -- The headline of `run`: what it writes of an accepted text is the whole text of a behaviour of its system, with the seed, the
--- horizon and the limit of the words, and the status is that of the behaviour's stop.
+-- horizon and the limit of the words, and the status is that of the behaviour's stop. With `--channels` it is what that behaviour
+-- hands over on each channel.
 abbrev pub RunIsBehaviour : Type 0
 RunIsBehaviour =
     (asked : RunRequest) (text : List ℕ) (system : System) (reply : Reply) → IsAccepted text system → OfSource (λ flat. Runs asked) text reply →
     (task : Task) × HasParts system asked.settings.seed asked.settings.horizon asked.settings.limit task × RunsBehaviour asked task reply
+
+-- What no schedule changes: where the system is determinate and its canonical run ends by termination, deadlock or the horizon,
+-- `run --channels` lets the same stand on output as `channels` with the same settings, and has the same status.
+abbrev pub RunListsTheSame : Type 0
+RunListsTheSame =
+    (asked : RunRequest) (text : List ℕ) (system : System) (task : Task) (reply other : Reply) → IsAccepted text system →
+    is_determinate system ≡ true → HasParts system asked.settings.seed asked.settings.horizon asked.settings.limit task →
+    IsSettled (canonical task).stop → asked.channels ≡ true →
+    OfSource (λ flat. Runs asked) text reply → Answers (Channels asked.settings) text other →
+    (reply.out ≡ other.out) × (reply.status ≡ other.status)

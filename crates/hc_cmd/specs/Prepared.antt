@@ -1,5 +1,5 @@
 -- What is ready to be written, and how its writing ends.
-use Rattle.std.specs.Prelude.{◌≡◌, ◌≤◌, ◌⊎◌, ℕ, List, length, IsSome, Result, Ok, Err, MatchResult}
+use Rattle.std.specs.Prelude.{◌≡◌, ◌⊎◌, ℕ, false, List, IsSome, Result, Ok, Err, MatchResult}
 use Rattle.hc_ast.specs.declared.tree.Tree.{Tree}
 use Rattle.hc_ast.specs.Source.{IsSource}
 use Rattle.hc_modules.specs.declared.flat.Flat.{Flat}
@@ -12,6 +12,7 @@ use Rattle.hc_world.specs.Reading.{ReadsAll, ReadsPast, ReadsWithin}
 use Rattle.hc_world.specs.States.{SourceState, SinkState}
 use Rattle.hc_world.specs.Sinks.{IsWhole, IsCut}
 use Rattle.hc_cmd.specs.declared.ending.End.{End}
+use Rattle.hc_cmd.specs.declared.ending.Text.{Text}
 use Rattle.hc_cmd.specs.declared.ending.Told.{Told}
 use Rattle.hc_cmd.specs.declared.ending.Told.TheVariants as told
 use Rattle.hc_cmd.specs.declared.refusal.Refusal.{Refusal}
@@ -34,17 +35,21 @@ abbrev pub bytes_of : Told → List ℕ
 bytes_of (told.Line line) = line.bytes
 bytes_of (told.Report bytes) = bytes.items
 
+-- a text lets this stand
+abbrev pub reply_in : Text → Reply
+reply_in t = record { status = t.end.status; out = t.bytes.items; err = bytes_of t.end.told }
+
 -- what is ready lets this stand
 abbrev pub reply_to : Prepared → Reply
 reply_to (is.Simulation s) = simulated s.joint.task
 reply_to (is.Line line) = done line.bytes
-reply_to (is.Spelling bytes) = done bytes.items
-reply_to (is.Run run) = running.told run.joint run.report.items
+reply_to (is.Text text) = reply_in text
+reply_to (is.Run run) = running.told false run.joint run.report.items
 
 abbrev pub IsReady : Prepared → Type 0
 IsReady (is.Simulation s) = AtOpening s
 IsReady (is.Line line) = Unit {0}
-IsReady (is.Spelling bytes) = Unit {0}
+IsReady (is.Text text) = Unit {0}
 IsReady (is.Run run) = IsSome run.joint.stop
 
 -- what is ready, or the refusal, lets this stand

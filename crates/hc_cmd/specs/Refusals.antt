@@ -94,7 +94,7 @@ status_of (Unexpanded s) = status_of_module_stop s
 status_of (Unchecked s) = status_of_check_stop s
 
 abbrev pub message_of : Refusal → List ℕ
-message_of Usage = codes "usage: hcsp ACTION [N] [--seed K] [--horizon T] [--limit K] [--workers K] [--steps K] [--report]"
+message_of Usage = codes "usage: hcsp ACTION [N] [--seed K] [--horizon T] [--limit K] [--workers K] [--steps K] [--report] [--channels]"
 message_of Unread = codes "read failed"
 message_of Memory = codes "out of memory"
 message_of (TooLong most) = codes "source longer than " ++ decimal most ++ codes " bytes"

@@ -7,6 +7,7 @@ use Rattle.hc_term.specs.declared.task.Task.{Task}
 use Rattle.hc_term.specs.Given.{HasParts}
 use Rattle.hc_joint.specs.Seen.{Seen}
 use Rattle.hc_sim.specs.Told.{history_text}
+use Rattle.hc_det.specs.Text.{text_at}
 use Rattle.hc_run.specs.Outcomes.{IsOutcome}
 use Rattle.hc_words.specs.declared.settings.RunRequest.{RunRequest}
 use Rattle.hc_words.specs.Requests.{AskRun}
@@ -45,9 +46,13 @@ abbrev pub status_by : Option Stop → ℕ
 status_by None = 0
 status_by (Some stop) = status_at stop
 
--- the whole text of a joint's history with its stop, the stop's status, and this on error
-abbrev pub told : Seen → List ℕ → Reply
-told joint err = record { status = status_by joint.stop; out = history_text joint; err = err }
+-- the text of a joint's history with its stop: the trace, or where they are asked for what it hands over on the channels
+abbrev pub text_for : Bool → Seen → List ℕ
+text_for channels joint = if channels then text_at joint.stop joint else history_text joint
+
+-- that text, the stop's status, and this on error
+abbrev pub told : Bool → Seen → List ℕ → Reply
+told channels joint err = record { status = status_by joint.stop; out = text_for channels joint; err = err }
 
 -- some outcome of running a system with these settings is told, with its numbers where they are asked for
 pub record Runs (asked : RunRequest) (system : System) (reply : Reply) : Type 0 where
@@ -57,7 +62,7 @@ pub record Runs (asked : RunRequest) (system : System) (reply : Reply) : Type 0 
   pub turns : List ℕ
   pub own : ℕ
   pub outcome : IsOutcome task (min asked.workers (length task.system.processes)) joint turns own
-  pub stands : reply ≡ told joint (report_for asked.report joint.recomputed turns own)
+  pub stands : reply ≡ told asked.channels joint (report_for asked.report joint.recomputed turns own)
 
 -- the call `answer_run`
 abbrev pub running : Call RunRequest

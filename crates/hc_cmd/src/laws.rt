@@ -1,8 +1,9 @@
 //! Laws of the definitions.
 
-ghost use Rattle.hc_cmd.specs.Laws.{AcceptedIsSized, MadeIsBehaviour, OneAcceptedSystem, OneAnswer, RunIsBehaviour, SimulationIsBehaviour};
+ghost use Rattle.hc_cmd.specs.Laws.{AcceptedIsSized, ListingIsBehaviour, MadeIsBehaviour, OneAcceptedSystem, OneAnswer, RunIsBehaviour, RunListsTheSame, SimulationIsBehaviour};
 
 use hc_check::system_laws;
+use hc_det::channel_laws;
 use hc_modules::tree_laws;
 use hc_parse::text_laws;
 use hc_term::step_laws;
@@ -13,11 +14,14 @@ pub fn acceptance_laws()
     ensures one_answer { OneAnswer }
     ensures sized { AcceptedIsSized }
     ensures simulated { SimulationIsBehaviour }
+    ensures listed { ListingIsBehaviour }
     ensures made { MadeIsBehaviour }
     ensures run { RunIsBehaviour }
+    ensures no_schedule { RunListsTheSame }
 {
     text_laws();
     tree_laws();
     system_laws();
     step_laws();
+    channel_laws();
 }

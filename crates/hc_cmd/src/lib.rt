@@ -5,6 +5,7 @@ mod accepting;
 mod answering;
 mod ending;
 mod laws;
+mod listing;
 mod making;
 mod prepared;
 mod refusal;

@@ -10,7 +10,7 @@ ghost use Rattle.hc_cmd.specs.Answers as spec;
 ghost use Rattle.hc_cmd.specs.Prepared.{reply_to, GivesNone, IsReady, IsTextOf, Performs, Prepares, Readies};
 
 use crate::accepting::{accepted, size_line, tree_of};
-use crate::ending::End;
+use crate::ending::{End, Text};
 use crate::making::{made_settings, run_line};
 use crate::refusal::Refusal;
 use crate::running::Run;
@@ -29,8 +29,8 @@ pub enum Prepared {
     Simulation(Simulation),
     /// A line that tells of a source.
     Line(ArrayString<128>),
-    /// The canonical spelling of a source.
-    Spelling(Vec<u8>),
+    /// A text that is known before it's written.
+    Text(Text),
     /// A run on threads that is over.
     Run(Run),
 }
@@ -44,6 +44,7 @@ fn prepare_text(alloc: Global, request: Request, text: &[u8]) -> Result<Prepared
         Request::Check => prepare_size(alloc, text),
         Request::Print => prepare_spelling(alloc, text),
         Request::Simulate(settings) => prepare_simulation(alloc, settings, text),
+        Request::Channels(settings) => prepare_listing(alloc, settings, text),
         Request::Make(made) => prepare_made(alloc, made),
     }
 }
@@ -62,7 +63,7 @@ fn prepare_spelling(alloc: Global, text: &[u8]) -> Result<Prepared, Refusal>
 {
     let tree = tree_of(alloc, text)?;
     let bytes = print(alloc, &tree).map_err(|_| Refusal::Memory)?;
-    Ok(Prepared::Spelling(bytes))
+    Ok(Prepared::Text(Text::done(bytes)))
 }
 
 fn prepare_simulation(alloc: Global, settings: Settings, text: &[u8]) -> Result<Prepared, Refusal>
@@ -72,6 +73,16 @@ fn prepare_simulation(alloc: Global, settings: Settings, text: &[u8]) -> Result<
     let (_, system) = accepted(alloc, text)?;
     let simulation = Simulation::open(alloc, settings, system).map_err(|_| Refusal::Memory)?;
     Ok(Prepared::Simulation(simulation))
+}
+
+fn prepare_listing(alloc: Global, settings: Settings, text: &[u8]) -> Result<Prepared, Refusal>
+    requires { length text.now ≤ most_source_bytes }
+    ensures { Prepares (Answers (asked.Channels settings) text.now) result }
+{
+    let (_, system) = accepted(alloc, text)?;
+    let simulation = Simulation::open(alloc, settings, system).map_err(|_| Refusal::Memory)?;
+    let listing = simulation.list(alloc).map_err(|_| Refusal::Memory)?;
+    Ok(Prepared::Text(listing))
 }
 
 /// Makes a source, and prepares what is told of it.
@@ -97,7 +108,7 @@ fn reads_source(request: &Request) -> bool
 {
     match request {
         Request::Make(_) => false,
-        Request::Check | Request::Print | Request::Simulate(_) => true,
+        Request::Check | Request::Print | Request::Simulate(_) | Request::Channels(_) => true,
     }
 }
 
@@ -145,17 +156,17 @@ impl Prepared {
     {
         match self {
             Prepared::Simulation(simulation) => simulation.perform(out),
-            Prepared::Line(line) => perform_text(line.as_str().as_bytes(), out),
-            Prepared::Spelling(bytes) => perform_text(bytes.as_slice(), out),
+            Prepared::Line(line) => perform_line(line.as_str().as_bytes(), out),
+            Prepared::Text(text) => text.perform(out),
             Prepared::Run(run) => run.perform(out),
         }
     }
 }
 
-/// Writes a text with nothing on error.
-fn perform_text<O: Sink>(text: &[u8], out: &mut O) -> Result<End, Failed>
-    ensures { Performs O.state out.old out.new (done text.now) result }
+/// Writes a line with nothing on error.
+fn perform_line<O: Sink>(line: &[u8], out: &mut O) -> Result<End, Failed>
+    ensures { Performs O.state out.old out.new (done line.now) result }
 {
-    put(out, text)?;
+    put(out, line)?;
     Ok(End::silent(0))
 }

@@ -15,7 +15,7 @@ use thiserror::Error;
 
 /// The words that a call may have.
 const USAGE: &str =
-    "usage: hcsp ACTION [N] [--seed K] [--horizon T] [--limit K] [--workers K] [--steps K] [--report]";
+    "usage: hcsp ACTION [N] [--seed K] [--horizon T] [--limit K] [--workers K] [--steps K] [--report] [--channels]";
 
 /// Why a call writes nothing on output.
 #[derive(Clone, Copy, Debug, PartialEq, Eq, Error)]

@@ -1,15 +1,16 @@
 //! A run on threads: made before anything is written, and then told.
 
-ghost use Rattle.std.specs.Prelude.{◌≡◌, ◌≤◌, IfOk, IsSome, length, map};
+ghost use Rattle.std.specs.Prelude.{◌≡◌, ◌≤◌, false, IfOk, IsSome, length, map, MatchResult};
 ghost use Rattle.std.specs.String.{string_bytes};
 ghost use Rattle.hc_limits.specs.Limits.{most_source_bytes};
 ghost use Rattle.hc_cmd.specs.Answers.{OfSource};
-ghost use Rattle.hc_cmd.specs.Prepared.{Prepares, Readies};
+ghost use Rattle.hc_cmd.specs.Prepared.{reply_to, IsReady, Prepares, Readies};
 ghost use Rattle.hc_cmd.specs.Running.{running, Runs};
 ghost use Rattle.hc_cmd.specs.Running as spec;
 
 use crate::accepting::accepted;
 use crate::ending::{End, Told};
+use crate::listing::listing_of;
 use crate::prepared::{Prepared, text_of};
 use crate::refusal::Refusal;
 use crate::report::report_of;
@@ -44,7 +45,7 @@ impl Run {
         gate: &G,
     ) -> Result<Run, AllocError>
         ensures stopped { IfOk result (λ r. IsSome r.joint.stop) }
-        ensures runs { IfOk result (λ r. Runs asked system (told r.joint r.report.items)) }
+        ensures runs { IfOk result (λ r. Runs asked system (told asked.channels r.joint r.report.items)) }
     {
         let task = task_of(asked.settings, system);
         let outcome = run(rt, alloc, &task, asked.workers, gate)?;
@@ -58,7 +59,7 @@ impl Run {
     /// Writes the whole history, and tells the status and the numbers. It takes no memory.
     pub(crate) fn perform<O: Sink>(self, out: &mut O) -> Result<End, Failed>
         requires { IsSome self.joint.stop }
-        ensures { Performs O.state out.old out.new (told self.joint self.report.items) result }
+        ensures { Performs O.state out.old out.new (told false self.joint self.report.items) result }
     {
         let Some(stop) = self.joint.stop() else {
             unreachable!()
@@ -87,6 +88,20 @@ fn report_for(alloc: Global, asked: bool, outcome: &Outcome) -> Result<Vec<u8>, 
     )
 }
 
+/// What is told of a run that is over: its trace, or where they are asked for what it hands over on the channels.
+fn told_of(alloc: Global, channels: bool, over: Run) -> Result<Prepared, Refusal>
+    requires { IsSome over.joint.stop }
+    ensures { MatchResult result (λ p. IsReady p × (reply_to p ≡ spec.told channels over.joint over.report.items)) (λ r. r ≡ Refusal.Memory) }
+{
+    if !channels {
+        return Ok(Prepared::Run(over));
+    }
+    let joint = over.joint;
+    let on_error = Told::Report(over.report);
+    let listing = listing_of(alloc, &joint, on_error).map_err(|_| Refusal::Memory)?;
+    Ok(Prepared::Text(listing))
+}
+
 /// Runs a text as it is asked, or tells why there is nothing to run.
 fn prepare_run_of<R: Threads + Wait + Sync, G: Gate + Sync>(
     rt: &R,
@@ -98,9 +113,10 @@ fn prepare_run_of<R: Threads + Wait + Sync, G: Gate + Sync>(
     requires { length text.now ≤ most_source_bytes }
     ensures { Prepares (OfSource (λ flat. Runs asked) text.now) result }
 {
+    let channels = asked.channels;
     let (_, system) = accepted(alloc, text)?;
     let over = Run::complete(rt, alloc, asked, system, gate).map_err(|_| Refusal::Memory)?;
-    Ok(Prepared::Run(over))
+    told_of(alloc, channels, over)
 }
 
 /// Reads the source as the words ask, and makes the run for which they ask, or tells why nothing is to be written.

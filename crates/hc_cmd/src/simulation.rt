@@ -2,9 +2,10 @@
 
 ghost use Rattle.std.specs.Prelude.{◌≡◌, IfOk};
 ghost use Rattle.hc_term.specs.Given.{HasParts};
-ghost use Rattle.hc_cmd.specs.Answers.{simulated, status_at};
+ghost use Rattle.hc_cmd.specs.Answers.{listed, simulated, status_at};
 
-use crate::ending::End;
+use crate::ending::{End, Text, Told};
+use crate::listing::listing_of;
 use hc_joint::Joint;
 use hc_sim::simulate;
 use hc_term::{Stop, System, Task};
@@ -19,7 +20,7 @@ pub struct Simulation {
 }
 
 impl Simulation {
-    ghost use Rattle.hc_cmd.specs.Prepared.{AtOpening, Performs};
+    ghost use Rattle.hc_cmd.specs.Prepared.{AtOpening, Performs, reply_in};
 
     /// The simulation of a system with these settings.
     pub(crate) fn open(
@@ -42,6 +43,16 @@ impl Simulation {
         let mut joint = self.joint;
         let stop = simulate(&mut joint, out)?;
         Ok(End::silent(status_of_stop(stop)))
+    }
+
+    /// Runs it to its stop, and tells what is handed over on each channel.
+    pub(crate) fn list(self, alloc: Global) -> Result<Text, AllocError>
+        requires { AtOpening self }
+        ensures { IfOk result (λ text. reply_in text ≡ listed self.joint.task) }
+    {
+        let mut joint = self.joint;
+        joint.finish();
+        listing_of(alloc, &joint, Told::nothing())
     }
 }
 

@@ -70,30 +70,27 @@ none_found (Some x) (Err y) same e = absurd (cc same)
 
 -- ---- actions by their names
 
--- texts of which one test tells the other apart
-pub apart : (a b : Text) → bytes_eq a a ≡ true → bytes_eq b a ≡ false → a ≡ b → ⊥
-apart a b same other e =
-    let both : true ≡ false = sym same ∙ ap (λ w. bytes_eq w a) e ∙ other in
-    cc both
+-- the action of a name
+action_of : Text → Option Action
+action_of t =
+    if bytes_eq t (codes "check") then Some act.Check else (if bytes_eq t (codes "print") then Some act.Print
+    else (if bytes_eq t (codes "simulate") then Some act.Simulate else (if bytes_eq t (codes "channels") then Some act.Channels
+    else (if bytes_eq t (codes "make") then Some act.Make else None))))
+
+its_name : (a : Action) → action_of (name_of_action a) ≡ Some a
+unfolding action_of
+its_name act.Check = refl
+its_name act.Print = refl
+its_name act.Simulate = refl
+its_name act.Channels = refl
+its_name act.Make = refl
+
+one_of : (a b : Action) → Some a ≡ Some b → a ≡ b
+one_of a b e = cc
 
 -- a name is that of one action at most
 pub one_action : (a b : Action) → name_of_action a ≡ name_of_action b → a ≡ b
-one_action act.Check act.Check e = refl
-one_action act.Check act.Print e = absurd (apart (codes "check") (codes "print") refl refl e)
-one_action act.Check act.Simulate e = absurd (apart (codes "check") (codes "simulate") refl refl e)
-one_action act.Check act.Make e = absurd (apart (codes "check") (codes "make") refl refl e)
-one_action act.Print act.Check e = absurd (apart (codes "print") (codes "check") refl refl e)
-one_action act.Print act.Print e = refl
-one_action act.Print act.Simulate e = absurd (apart (codes "print") (codes "simulate") refl refl e)
-one_action act.Print act.Make e = absurd (apart (codes "print") (codes "make") refl refl e)
-one_action act.Simulate act.Check e = absurd (apart (codes "simulate") (codes "check") refl refl e)
-one_action act.Simulate act.Print e = absurd (apart (codes "simulate") (codes "print") refl refl e)
-one_action act.Simulate act.Simulate e = refl
-one_action act.Simulate act.Make e = absurd (apart (codes "simulate") (codes "make") refl refl e)
-one_action act.Make act.Check e = absurd (apart (codes "make") (codes "check") refl refl e)
-one_action act.Make act.Print e = absurd (apart (codes "make") (codes "print") refl refl e)
-one_action act.Make act.Simulate e = absurd (apart (codes "make") (codes "simulate") refl refl e)
-one_action act.Make act.Make e = refl
+one_action a b e = one_of a b (sym (its_name a) ∙ ap action_of e ∙ its_name b)
 
 -- the same for an action that was found by its name
 pub found_action : (name : Text) (a : Action) (g : Given) (r : Request) → name_of_action a ≡ name → (asked : IsRequested name g r) → asked.action ≡ a

@@ -12,7 +12,7 @@ use Rattle.clap.specs.Walk.{Held, Row, Rule, Text, Walk, idle, option, has_row, 
 use Rattle.clap.specs.Lexer.{long_of}
 use Rattle.clap.specs.Simple.{Shape}
 use Rattle.clap.specs.Takes.{turn_passes, walk_passes}
-use Rattle.hc_words.specs.Order.{Setting, number, seed, horizon, limit, workers, report, name_of, is_number, is_flag, Choice, words_of, IsRight, is_other, are_apart}
+use Rattle.hc_words.specs.Order.{Setting, number, seed, horizon, limit, workers, report, channels, name_of, is_number, is_flag, Choice, words_of, IsRight, is_other, are_apart}
 use Rattle.hc_words.proofs.Rights.{BeginsPlain, right_plain}
 use Rattle.hc_words.proofs.Uses.{row_for}
 use Rattle.hc_words.proofs.Steps.{IsFlag, IsOption, IsWord, Reached, raised, raised_walked, raised_passes, raised_reached, put, word_walked, word_passes, word_reached, standing, joined, joined_walked, joined_passes, joined_reached, named, named_walked, named_passes, valued, valued_walked, valued_passes, valued_reached}
@@ -67,6 +67,7 @@ long_alone horizon = refl
 long_alone limit = refl
 long_alone workers = refl
 long_alone report = refl
+long_alone channels = refl
 
 long_joined : (k : Setting) (v : Text) → long_of (45 ∷ 45 ∷ name_of k ++ 61 ∷ v) ≡ Some (name_of k, Some v)
 long_joined number v = refl
@@ -75,6 +76,7 @@ long_joined horizon v = refl
 long_joined limit v = refl
 long_joined workers v = refl
 long_joined report v = refl
+long_joined channels v = refl
 
 alone_dashes : (k : Setting) → bytes_eq (45 ∷ 45 ∷ name_of k) (45 ∷ 45 ∷ []) ≡ false
 alone_dashes number = refl
@@ -83,6 +85,7 @@ alone_dashes horizon = refl
 alone_dashes limit = refl
 alone_dashes workers = refl
 alone_dashes report = refl
+alone_dashes channels = refl
 
 joined_dashes : (k : Setting) (v : Text) → bytes_eq (45 ∷ 45 ∷ name_of k ++ 61 ∷ v) (45 ∷ 45 ∷ []) ≡ false
 joined_dashes number v = refl
@@ -91,6 +94,7 @@ joined_dashes horizon v = refl
 joined_dashes limit v = refl
 joined_dashes workers v = refl
 joined_dashes report v = refl
+joined_dashes channels v = refl
 
 not_number : (k : Setting) → is_number k ≡ false → bytes_eq (name_of k) (codes "N") ≡ false
 not_number number e = cc e
@@ -99,6 +103,7 @@ not_number horizon e = refl
 not_number limit e = refl
 not_number workers e = refl
 not_number report e = refl
+not_number channels e = refl
 
 -- what is found for a choice
 abbrev pub row_of_choice : Choice → Row
@@ -140,20 +145,20 @@ module _ (s : Shape) (k : Setting) (a : Rule) (o : IsOption s (name_of k) a) (ot
         reached = valued_reached s (name_of k) a o h rows reached none n (x ∷ v);
       }
 
-module _ (s : Shape) (a : Rule) (o : IsFlag s (codes "report") a) (h : Held) (rows : List Row) (n : ℕ) (reached : Reached s h rows)
-    (none : has_row (codes "report") rows ≡ false) (counts : n ≡ position_in rows) where
-  flag_leads : Leads s h n ((45 ∷ 45 ∷ codes "report") ∷ []) (rows ++ row_for (codes "report") (codes "true") ∷ [])
+module _ (s : Shape) (k : Setting) (a : Rule) (o : IsFlag s (name_of k) a) (other : bytes_eq (name_of k) (codes "N") ≡ false)
+    (h : Held) (rows : List Row) (n : ℕ) (reached : Reached s h rows) (none : has_row (name_of k) rows ≡ false) (counts : n ≡ position_in rows) where
+  flag_leads : Leads s h n ((45 ∷ 45 ∷ name_of k) ∷ []) (rows ++ row_for (name_of k) (codes "true") ∷ [])
   flag_leads =
-      let word : Text = 45 ∷ 45 ∷ codes "report" in
-      let walks = raised_walked s (codes "report") a o h rows reached none n word refl refl in
-      let turn = raised_passes s (codes "report") a o h rows reached none n word refl refl in
+      let word : Text = 45 ∷ 45 ∷ name_of k in
+      let walks = raised_walked s (name_of k) a o h rows reached none n word (alone_dashes k) (long_alone k) in
+      let turn = raised_passes s (name_of k) a o h rows reached none n word (alone_dashes k) (long_alone k) in
       record {
-        place = raised s (codes "report") a o h rows reached none n;
+        place = raised s (name_of k) a o h rows reached none n;
         position = n;
-        counts = counts ∙ sym (same_position rows (codes "report") (codes "true") refl);
+        counts = counts ∙ sym (same_position rows (name_of k) (codes "true") other);
         walks = walks;
         passes = λ rest behind. passes_on s (standing h idle n) _ word rest turn walks behind;
-        reached = raised_reached s (codes "report") a o h rows reached none n;
+        reached = raised_reached s (name_of k) a o h rows reached none n;
       }
 
 module _ (s : Shape) (a : Rule) (o : IsWord s 2 (codes "N") a) (h : Held) (rows : List Row) (reached : Reached s h rows)
@@ -174,13 +179,19 @@ module _ (s : Shape) (a : Rule) (o : IsWord s 2 (codes "N") a) (h : Held) (rows 
       })
 
 module _ (s : Shape) (rule : Setting → Rule) (options : (k : Setting) → is_number k ≡ false → is_flag k ≡ false → IsOption s (name_of k) (rule k))
-    (flag : IsFlag s (codes "report") (rule report)) (word : IsWord s 2 (codes "N") (rule number)) where
+    (flags : (k : Setting) → is_flag k ≡ true → IsFlag s (name_of k) (rule k)) (word : IsWord s 2 (codes "N") (rule number)) where
   option_leads : (k : Setting) (b : Bool) (v : Text) (h : Held) (rows : List Row) (n : ℕ) → is_number k ≡ false → is_flag k ≡ false → IsRight k v → Reached s h rows →
       has_row (name_of k) rows ≡ false → n ≡ position_in rows →
       Leads s h n (if b then (45 ∷ 45 ∷ name_of k ++ 61 ∷ v) ∷ [] else (45 ∷ 45 ∷ name_of k) ∷ v ∷ []) (rows ++ row_for (name_of k) v ∷ [])
   option_leads k true v h rows n e f right reached none counts = joined_leads s k (rule k) (options k e f) (not_number k e) h rows n reached none counts v
   option_leads k false v h rows n e f right reached none counts =
       apart_leads s k (rule k) (options k e f) (not_number k e) h rows n reached none counts v (right_plain k v right)
+
+  raising_leads : (k : Setting) (v : Text) (h : Held) (rows : List Row) (n : ℕ) → is_number k ≡ false → is_flag k ≡ true → v ≡ codes "true" → Reached s h rows →
+      has_row (name_of k) rows ≡ false → n ≡ position_in rows → Leads s h n ((45 ∷ 45 ∷ name_of k) ∷ []) (rows ++ row_for (name_of k) v ∷ [])
+  raising_leads k v h rows n e f right reached none counts =
+      subst (λ (t : Text). Leads s h n ((45 ∷ 45 ∷ name_of k) ∷ []) (rows ++ row_for (name_of k) t ∷ [])) (sym right)
+      (flag_leads s k (rule k) (flags k f) (not_number k e) h rows n reached none counts)
 
   choice_leads : (k : Setting) (b : Bool) (v : Text) (h : Held) (rows : List Row) (n : ℕ) → IsRight k v → Reached s h rows → has_row (name_of k) rows ≡ false →
       n ≡ position_in rows → Leads s h n (words_of (record { setting = k; is_joined = b; value = v })) (rows ++ row_for (name_of k) v ∷ [])
@@ -189,9 +200,8 @@ module _ (s : Shape) (rule : Setting → Rule) (options : (k : Setting) → is_n
   choice_leads horizon b v h rows n right reached none counts = option_leads horizon b v h rows n refl refl right reached none counts
   choice_leads limit b v h rows n right reached none counts = option_leads limit b v h rows n refl refl right reached none counts
   choice_leads workers b v h rows n right reached none counts = option_leads workers b v h rows n refl refl right reached none counts
-  choice_leads report b v h rows n right reached none counts =
-      subst (λ (t : Text). Leads s h n ((45 ∷ 45 ∷ codes "report") ∷ []) (rows ++ row_for (codes "report") t ∷ [])) (sym right)
-      (flag_leads s (rule report) flag h rows n reached none counts)
+  choice_leads report b v h rows n right reached none counts = raising_leads report v h rows n refl refl right reached none counts
+  choice_leads channels b v h rows n right reached none counts = raising_leads channels v h rows n refl refl right reached none counts
 
 -- ---- choices in a row
 
@@ -231,7 +241,7 @@ still_new rows c (d ∷ cs) new other =
     and_from _ _ (ap not none) (still_new rows c cs here.1 apart.1)
 
 module _ (s : Shape) (rule : Setting → Rule) (options : (k : Setting) → is_number k ≡ false → is_flag k ≡ false → IsOption s (name_of k) (rule k))
-    (flag : IsFlag s (codes "report") (rule report)) (word : IsWord s 2 (codes "N") (rule number)) where
+    (flags : (k : Setting) → is_flag k ≡ true → IsFlag s (name_of k) (rule k)) (word : IsWord s 2 (codes "N") (rule number)) where
   pub choices_lead : (cs : List Choice) (h : Held) (rows : List Row) (n : ℕ) → All (λ c. IsRight c.setting c.value) cs → Reached s h rows →
       are_new rows cs ≡ true → are_apart cs ≡ true → n ≡ position_in rows → Leads s h n (flat_map words_of cs) (rows ++ map row_of_choice cs)
   choices_lead [] h rows n right reached new apart counts =
@@ -240,7 +250,7 @@ module _ (s : Shape) (rule : Setting → Rule) (options : (k : Setting) → is_n
       let here = and_parts (not (has_row (name_of c.setting) rows)) (are_new rows cs) new in
       let others = and_parts (list_all (is_other c) cs) (are_apart cs) apart in
       let mine = All-head (λ (d : Choice). IsRight d.setting d.value) c cs right in
-      let first = choice_leads s rule options flag word c.setting c.is_joined c.value h rows n mine reached (not_true _ here.0) counts in
+      let first = choice_leads s rule options flags word c.setting c.is_joined c.value h rows n mine reached (not_true _ here.0) counts in
       let rest = choices_lead cs first.place (rows ++ row_of_choice c ∷ []) first.position (All-tail (λ (d : Choice). IsRight d.setting d.value) c cs right) first.reached (still_new rows c cs here.1 others.0) others.1 first.counts in
       subst (λ (more : List Row). Leads s h n (words_of c ++ flat_map words_of cs) more) (append_assoc rows (row_of_choice c ∷ []) (map row_of_choice cs))
       (both_lead s h n (words_of c) (flat_map words_of cs) _ _ first rest)

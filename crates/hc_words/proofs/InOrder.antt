@@ -1,5 +1,5 @@
 -- Words in order: clap takes them, and they ask for what their choices say.
-use Rattle.std.proofs.Common.{◌≡◌, refl, ap, sym, subst, ◌∙◌, ℕ, ◌==◌, Bool, true, false, not, ◌||◌, if◌then◌else◌, List, [], ◌∷◌, ◌++◌, map, Option, Some, None, slice_get}
+use Rattle.std.proofs.Common.{◌≡◌, refl, ap, sym, subst, ◌∙◌, ℕ, ◌==◌, Bool, true, false, not, ◌||◌, List, [], ◌∷◌, map, Option, Some, None, slice_get}
 use Rattle.std.specs.Prelude.{codes, flat_map, pos}
 use Rattle.std.specs.List.{All, list_all}
 use Rattle.std.specs.Str.{bytes_eq}
@@ -12,20 +12,20 @@ use Rattle.hc_words.specs.declared.actions.Action.{Action}
 use Rattle.hc_words.specs.declared.actions.Action.TheVariants as act
 use Rattle.hc_words.specs.declared.actions.Room.{Room}
 use Rattle.hc_words.specs.declared.requests.Request.{Request}
-use Rattle.hc_words.specs.declared.requests.Request.TheVariants.{Check, Print, Simulate, Make}
+use Rattle.hc_words.specs.declared.requests.Request.TheVariants.{Check, Print, Simulate, Channels, Make}
 use Rattle.hc_words.specs.declared.settings.Made.{Made}
 use Rattle.hc_words.specs.declared.settings.RunRequest.{RunRequest}
 use Rattle.hc_words.specs.declared.settings.Settings.{Settings}
 use Rattle.hc_words.specs.Actions.{name_of_action, room_of, name_of_run, room_of_run, is_wanted, allows, fits, belongs}
 use Rattle.hc_words.specs.Line.{Given, given, given_in, is_taken, is_yes}
-use Rattle.hc_words.specs.Order.{Setting, number, seed, horizon, limit, workers, report, name_of, Choice, words_of, are_apart, IsRight, has, StandInOrder, AreInOrder, AreRunInOrder, said, given_by}
+use Rattle.hc_words.specs.Order.{Setting, number, seed, horizon, limit, workers, report, channels, name_of, Choice, words_of, are_apart, IsRight, has, StandInOrder, AreInOrder, AreRunInOrder, said, given_by}
 use Rattle.hc_words.specs.Requests.{Ask, Asks, AreSettings, IsMade, IsRun, AskRun, IsHorizon, pairs_in, limit_in, seed_in, workers_in}
 use Rattle.hc_words.proofs.Asking.{pairs_within, workers_within, limits, positive}
 use Rattle.hc_words.proofs.Rights.{BeginsPlain}
 use Rattle.hc_words.proofs.Choices.{Leads, are_new, choices_lead, row_of_choice}
-use Rattle.hc_words.proofs.Options.{shape, rule_at, number_is_word, is_option, report_is_flag}
+use Rattle.hc_words.proofs.Options.{shape, rule_at, number_is_word, is_option, is_flag_of}
 use Rattle.hc_words.proofs.Passing.{acting, action_row, action_reached, led_free}
-use Rattle.hc_words.proofs.Values.{IsRightIn, defaulted, first_said, found_behind, not_said, said_right, said_allowed, led_matches, passed_over, report_row}
+use Rattle.hc_words.proofs.Values.{IsRightIn, defaults_give, first_said, said_right, said_allowed, led_matches, passed_over}
 
 -- ---- an action with choices behind it
 
@@ -40,6 +40,7 @@ not_action (c ∷ cs) action = and_from _ _ (go c.setting) (not_action cs action
     go limit = refl
     go workers = refl
     go report = refl
+    go channels = refl
 
 not_steps : (k : Setting) → bytes_eq (name_of k) (codes "steps") ≡ false
 not_steps number = refl
@@ -48,51 +49,41 @@ not_steps horizon = refl
 not_steps limit = refl
 not_steps workers = refl
 not_steps report = refl
+not_steps channels = refl
 
--- the rows of an action with choices behind it, and behind them at most the flag's default, are what the choices give
-module _ (action : Text) (cs : List Choice) where
-  rows_by : (tail : List Row) → first_of (codes "N") tail ≡ None → first_of (codes "seed") tail ≡ None → first_of (codes "horizon") tail ≡ None →
-      first_of (codes "limit") tail ≡ None → first_of (codes "workers") tail ≡ None → first_of (codes "steps") tail ≡ None →
-      is_yes (first_of (codes "report") (map row_of_choice cs ++ tail)) ≡ is_yes (said report cs) →
-      given_in (action_row action ∷ map row_of_choice cs ++ tail) ≡ given_by cs
-  rows_by tail no_number no_seed no_horizon no_limit no_workers no_steps told =
-      let counted = first_said number cs tail no_number in
-      let first = first_said seed cs tail no_seed in
-      let second = first_said horizon cs tail no_horizon in
-      let third = first_said limit cs tail no_limit in
-      let fourth = first_said workers cs tail no_workers in
-      let steps = passed_over (codes "steps") not_steps cs tail ∙ no_steps in
-      rw (counted, first, second, third, fourth, steps, told) refl
-
-  rows_give : given_in (defaulted (action_row action ∷ map row_of_choice cs)) ≡ given_by cs
-  rows_give = go (has_row (codes "report") (map row_of_choice cs)) refl
-    where
-      go : (b : Bool) → has_row (codes "report") (map row_of_choice cs) ≡ b →
-          given_in (if b then action_row action ∷ map row_of_choice cs else ((action_row action ∷ map row_of_choice cs) ++ report_row ∷ [])) ≡ given_by cs
-      go true given =
-          ap (λ (rows : List Row). given_in (action_row action ∷ rows)) (sym (append-nil (map row_of_choice cs)))
-          ∙ rows_by [] refl refl refl refl refl refl (ap is_yes (first_said report cs [] refl))
-      go false none =
-          rows_by (report_row ∷ []) refl refl refl refl refl refl
-          (ap is_yes (found_behind (codes "report") (map row_of_choice cs) (report_row ∷ []) none) ∙ sym (ap is_yes (not_said report cs none)))
+-- the rows of an action with choices behind it are what the choices give
+rows_give : (action : Text) (cs : List Choice) → given_in (action_row action ∷ map row_of_choice cs) ≡ given_by cs
+rows_give action cs =
+    let all : List Row = map row_of_choice cs in
+    let end = append-nil all in
+    let counted = ap (first_of (codes "N")) (sym end) ∙ first_said number cs [] refl in
+    let first = ap (first_of (codes "seed")) (sym end) ∙ first_said seed cs [] refl in
+    let second = ap (first_of (codes "horizon")) (sym end) ∙ first_said horizon cs [] refl in
+    let third = ap (first_of (codes "limit")) (sym end) ∙ first_said limit cs [] refl in
+    let fourth = ap (first_of (codes "workers")) (sym end) ∙ first_said workers cs [] refl in
+    let steps = ap (first_of (codes "steps")) (sym end) ∙ passed_over (codes "steps") not_steps cs [] in
+    let told = ap (first_of (codes "report")) (sym end) ∙ first_said report cs [] refl in
+    let listed = ap (first_of (codes "channels")) (sym end) ∙ first_said channels cs [] refl in
+    rw (counted, first, second, third, fourth, steps, told, listed) refl
 
 module _ (x : ℕ) (v : Text) (e : (x == 45) ≡ false) (cs : List Choice) (right : All (λ c. IsRight c.setting c.value) cs) (apart : are_apart cs ≡ true) where
   led : Leads shape (acting (x ∷ v)) 2 (flat_map words_of cs) (action_row (x ∷ v) ∷ map row_of_choice cs)
   led =
-      choices_lead shape rule_at is_option report_is_flag number_is_word cs (acting (x ∷ v)) (action_row (x ∷ v) ∷ []) 2 right
+      choices_lead shape rule_at is_option is_flag_of number_is_word cs (acting (x ∷ v)) (action_row (x ∷ v) ∷ []) 2 right
       (action_reached (x ∷ v)) (not_action cs (x ∷ v)) apart refl
 
   word_taken : (name : Text) → is_taken (name ∷ (x ∷ v) ∷ flat_map words_of cs) ≡ true
   word_taken name = led_free name x v (flat_map words_of cs) _ e led
 
   word_given : (name : Text) → given (name ∷ (x ∷ v) ∷ flat_map words_of cs) ≡ given_by cs
-  word_given name = ap given_in (led_matches name x v (flat_map words_of cs) _ e led) ∙ rows_give (x ∷ v) cs
+  word_given name = ap given_in (led_matches name x v (flat_map words_of cs) _ e led) ∙ defaults_give (action_row (x ∷ v) ∷ map row_of_choice cs) ∙ rows_give (x ∷ v) cs
 
 -- a name of an action doesn't begin with `-`
 action_plain : (a : Action) → BeginsPlain (name_of_action a)
 action_plain act.Check = refl
 action_plain act.Print = refl
 action_plain act.Simulate = refl
+action_plain act.Channels = refl
 action_plain act.Make = refl
 
 -- words in order are taken, they give what their choices give, and there is room for that
@@ -161,14 +152,21 @@ asked_by : (a : Action) (cs : List Choice) → is_wanted (room_of a).number (sai
 asked_by act.Check cs wanted right = (Check, refl)
 asked_by act.Print cs wanted right = (Print, refl)
 asked_by act.Simulate cs wanted right = let s = settings_found cs right in (Simulate s.0, (s.0, s.1, refl))
+asked_by act.Channels cs wanted right = let s = settings_found cs right in (Channels s.0, (s.0, s.1, refl))
 asked_by act.Make cs wanted right = let m = made_found cs wanted right in (Make m.0, (m.0, m.1, refl))
 
 run_found : (cs : List Choice) → All (λ c. IsRight c.setting c.value) cs → (r : RunRequest) × IsRun (given_by cs) r
 run_found cs right =
     let set = settings_found cs right in
     let many = workers_found (said workers cs) (said_right workers cs right) in (
-      record { settings = set.0; workers = many.0; report = is_yes (said report cs); few = workers_within (said workers cs) many.0 many.1 },
-      record { set = set.1; workers = many.1; report = refl },
+      record {
+        settings = set.0;
+        workers = many.0;
+        report = is_yes (said report cs);
+        channels = is_yes (said channels cs);
+        few = workers_within (said workers cs) many.0 many.1;
+      },
+      record { set = set.1; workers = many.1; report = refl; channels = refl },
     )
 
 -- a flag for which there is no room isn't said
@@ -181,9 +179,10 @@ flag_allowed false (Some t) e = cc e
 fitting : (room : Room) (cs : List Choice) → list_all (λ c. has room c.setting) cs ≡ true → is_wanted room.number (said number cs) ≡ true →
     fits room (given_by cs) ≡ true
 fitting room cs belong wanted =
-    and_from _ _ (and_from _ _ (and_from _ _ (and_from _ _ (and_from _ _ (and_from _ _ wanted
+    and_from _ _ (and_from _ _ (and_from _ _ (and_from _ _ (and_from _ _ (and_from _ _ (and_from _ _ wanted
     (said_allowed room seed cs belong)) (said_allowed room horizon cs belong)) (said_allowed room limit cs belong))
-    (said_allowed room workers cs belong)) refl) (flag_allowed room.report (said report cs) (said_allowed room report cs belong))
+    (said_allowed room workers cs belong)) refl) (flag_allowed room.report (said report cs) (said_allowed room report cs belong)))
+    (flag_allowed room.channels (said channels cs) (said_allowed room channels cs belong))
 
 pub in_order_ask : (words : List Text) (order : AreInOrder words) → (r : Request) × Ask words r × Asks order.action (given_by order.order.choices) r
 in_order_ask words o =

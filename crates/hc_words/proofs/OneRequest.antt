@@ -5,7 +5,7 @@ use Rattle.hc_limits.specs.Limits.{most_pairs, most_steps, most_workers}
 use Rattle.clap.specs.Walk.{Text}
 use Rattle.hc_rational.specs.Words.{Rational, is_positive}
 use Rattle.hc_words.specs.declared.requests.Request.{Request}
-use Rattle.hc_words.specs.declared.requests.Request.TheVariants.{Simulate, Make}
+use Rattle.hc_words.specs.declared.requests.Request.TheVariants.{Simulate, Channels, Make}
 use Rattle.hc_words.specs.declared.settings.Made.{Made}
 use Rattle.hc_words.specs.declared.settings.RunRequest.{RunRequest}
 use Rattle.hc_words.specs.declared.settings.Settings.{Settings}
@@ -72,21 +72,24 @@ one_made g m u x y = same_made m u (one_value _ m.pairs u.pairs x.pairs y.pairs)
 one_few : (n : ℕ) (k l : (1 ≤ n) × (n ≤ most_workers)) → k ≡ l
 one_few n = hlevel props
 
-same_run : (r u : RunRequest) → r.settings ≡ u.settings → r.workers ≡ u.workers → r.report ≡ u.report → r ≡ u
-same_run r u settings workers report = by r.settings r.workers r.report settings workers report r.few
+same_run : (r u : RunRequest) → r.settings ≡ u.settings → r.workers ≡ u.workers → r.report ≡ u.report → r.channels ≡ u.channels → r ≡ u
+same_run r u settings workers report channels = by r.settings r.workers r.report r.channels settings workers report channels r.few
   where
-    by : (s : Settings) (n : ℕ) (b : Bool) → s ≡ u.settings → n ≡ u.workers → b ≡ u.report → (l : (1 ≤ n) × (n ≤ most_workers)) →
-        record { settings = s; workers = n; report = b; few = l } ≡ u
-    by s n b is_settings is_workers is_report =
-        let Same : Settings → ℕ → Bool → Type 0 = λ s n b. (l : (1 ≤ n) × (n ≤ most_workers)) → record { settings = s; workers = n; report = b; few = l } ≡ u in
-        let here : Same u.settings u.workers u.report =
-        λ l. ap (λ l. record { settings = u.settings; workers = u.workers; report = u.report; few = l }) (one_few u.workers l u.few) in
-        subst (λ s. Same s n b) (sym is_settings) (subst (λ n. Same u.settings n b) (sym is_workers) (subst (λ b. Same u.settings u.workers b) (sym is_report) here))
+    by : (s : Settings) (n : ℕ) (b k : Bool) → s ≡ u.settings → n ≡ u.workers → b ≡ u.report → k ≡ u.channels → (l : (1 ≤ n) × (n ≤ most_workers)) →
+        record { settings = s; workers = n; report = b; channels = k; few = l } ≡ u
+    by s n b k is_settings is_workers is_report is_channels =
+        let Same : Settings → ℕ → Bool → Bool → Type 0 =
+        λ s n b k. (l : (1 ≤ n) × (n ≤ most_workers)) → record { settings = s; workers = n; report = b; channels = k; few = l } ≡ u in
+        let here : Same u.settings u.workers u.report u.channels =
+        λ l. ap (λ l. record { settings = u.settings; workers = u.workers; report = u.report; channels = u.channels; few = l }) (one_few u.workers l u.few) in
+        subst (λ s. Same s n b k) (sym is_settings) (subst (λ n. Same u.settings n b k) (sym is_workers)
+        (subst (λ b. Same u.settings u.workers b k) (sym is_report) (subst (λ k. Same u.settings u.workers u.report k) (sym is_channels) here)))
 
 one_asked : (action : Action) (g : Given) (r s : Request) → Asks action g r → Asks action g s → r ≡ s
 one_asked act.Check g r s x y = x ∙ sym y
 one_asked act.Print g r s x y = x ∙ sym y
 one_asked act.Simulate g r s x y = x.2 ∙ ap Simulate (one_simulation g x.0 y.0 x.1 y.1) ∙ sym y.2
+one_asked act.Channels g r s x y = x.2 ∙ ap Channels (one_simulation g x.0 y.0 x.1 y.1) ∙ sym y.2
 one_asked act.Make g r s x y = x.2 ∙ ap Make (one_made g x.0 y.0 x.1 y.1) ∙ sym y.2
 
 pub one_request : (words : List Text) (r s : Request) → Ask words r → Ask words s → r ≡ s
@@ -98,4 +101,4 @@ one_request words r s x y =
 pub one_run : (words : List Text) (r s : RunRequest) → AskRun words r → AskRun words s → r ≡ s
 one_run words r s x y =
     same_run r s (one_simulation (given words) r.settings s.settings x.asked.set y.asked.set)
-    (one_value _ r.workers s.workers x.asked.workers y.asked.workers) (x.asked.report ∙ sym y.asked.report)
+    (one_value _ r.workers s.workers x.asked.workers y.asked.workers) (x.asked.report ∙ sym y.asked.report) (x.asked.channels ∙ sym y.asked.channels)

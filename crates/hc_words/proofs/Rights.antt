@@ -15,7 +15,7 @@ use Rattle.hc_frac.specs.Text.{text_of}
 use Rattle.hc_token.specs.declared.token.Token.{Token}
 use Rattle.hc_token.specs.Tokens.{tokens_of}
 use Rattle.hc_words.specs.Numbers.{is_digits, in_decimal, number_within, IsFractionText, fraction, decimal as of_decimal}
-use Rattle.hc_words.specs.Order.{Setting, number, seed, horizon, limit, workers, report, IsRight}
+use Rattle.hc_words.specs.Order.{Setting, number, seed, horizon, limit, workers, report, channels, IsRight}
 
 -- the text isn't empty, and doesn't begin with `-`
 abbrev pub BeginsPlain : Text → Type 0
@@ -83,3 +83,4 @@ right_plain horizon t h = fraction_plain t h.0 h.1 h.2
 right_plain limit t h = number_plain 1 most_steps h.0 t h.1
 right_plain workers t h = number_plain 1 most_workers h.0 t h.1
 right_plain report t h = subst BeginsPlain (sym h) refl
+right_plain channels t h = subst BeginsPlain (sym h) refl

@@ -1,9 +1,11 @@
 -- An action and choices behind it: the matches are the values of the choices.
-use Rattle.std.proofs.Common.{◌≡◌, refl, ap, subst, ◌∙◌, ℕ, ◌==◌, Bool, true, false, ◌||◌, List, [], ◌∷◌, ◌++◌, map, drop, take, Option, Some, None, cond, if◌then◌else◌}
+use Rattle.std.proofs.Common.{◌≡◌, refl, ap, sym, subst, ◌∙◌, ℕ, ◌==◌, Bool, true, false, ◌||◌, List, [], ◌∷◌, ◌++◌, map, drop, take, Option, Some, None, cond, if◌then◌else◌}
 use Rattle.std.specs.Prelude.{codes, find, fold, option_and_then, slice_get}
 use Rattle.std.specs.List.{All, list_all}
 use Rattle.std.specs.Str.{bytes_eq}
 use Rattle.std.proofs.lemmas.Bool.{and_parts}
+use Rattle.std.proofs.lemmas.List.{append-nil}
+use Rattle.std.proofs.lemmas.Slice.Eq.{bytes_eq-Decides}
 use Rattle.std.proofs.lemmas.List.Elements.{All-head, All-tail}
 use Rattle.std.proofs.lemmas.Grind.{fold-append}
 use Rattle.clap.specs.declared.builder.value_parser.Reading.TheVariants as reading
@@ -11,29 +13,26 @@ use Rattle.clap.specs.declared.parser.matches.ValueSource.TheVariants.{DefaultVa
 use Rattle.clap.specs.Walk.{Held, Row, Rule, Text, Walk, default_rows, finished, first_of, has_row, nothing_held, reading_by, walk, with_default}
 use Rattle.clap.specs.Simple.{built, filled, matches_of, names_of}
 use Rattle.clap.proofs.OnLiterals.{clap_on_literals}
-use Rattle.hc_words.specs.Line.{hcsp, flag_rule}
+use Rattle.hc_words.specs.Line.{hcsp, flag_rule, given_in, is_yes}
 use Rattle.hc_words.specs.declared.actions.Room.{Room}
 use Rattle.hc_words.specs.Actions.{allows}
-use Rattle.hc_words.specs.Order.{Setting, number, seed, horizon, limit, workers, report, name_of, Choice, IsRight, has, said}
+use Rattle.hc_words.specs.Order.{Setting, number, seed, horizon, limit, workers, report, channels, name_of, Choice, IsRight, has, said}
 use Rattle.hc_words.proofs.Uses.{first_values}
 use Rattle.hc_words.proofs.Steps.{Reached}
 use Rattle.hc_words.proofs.Choices.{Leads, row_of_choice}
 use Rattle.hc_words.proofs.Options.{shape}
 use Rattle.hc_words.proofs.Passing.{acting, all_walked}
 
--- ---- defaults: the flag alone has one
+-- ---- defaults: the flags alone have one
 
-abbrev pub report_row : Row
-report_row = record {
-  id = codes "report";
+abbrev pub flag_row : Text → Row
+flag_row id = record {
+  id = id;
   values = codes "false" ∷ [];
   count = None;
   source = Some DefaultValue;
   reading = reading.AsWritten;
 }
-
-unfoldable report_rule : Rule
-report_rule = filled (flag_rule (codes "report"))
 
 abbrev is_none : List Text → Bool
 is_none [] = true
@@ -54,37 +53,43 @@ no_defaults (a ∷ rules) rows none =
     let both = and_parts (is_none a.defaults) (list_all (λ (b : Rule). is_none b.defaults) rules) none in
     ap (λ more. fold with_default more rules) (no_default a a.defaults rows refl both.0) ∙ no_defaults rules rows both.1
 
-rules_are : shape.rules ≡ take 7 shape.rules ++ report_rule ∷ drop 8 shape.rules
-unfolding shape report_rule hcsp clap_on_literals
+rules_are : shape.rules ≡ take 7 shape.rules ++ filled (flag_rule (codes "report")) ∷ filled (flag_rule (codes "channels")) ∷ drop 9 shape.rules
+unfolding shape hcsp clap_on_literals
 rules_are = refl
 
 none_before : list_all (λ (a : Rule). is_none a.defaults) (take 7 shape.rules) ≡ true
 unfolding shape hcsp clap_on_literals
 none_before = refl
 
-none_behind : list_all (λ (a : Rule). is_none a.defaults) (drop 8 shape.rules) ≡ true
+none_behind : list_all (λ (a : Rule). is_none a.defaults) (drop 9 shape.rules) ≡ true
 unfolding shape hcsp clap_on_literals
 none_behind = refl
 
--- the rows with the flag's default behind them, where it isn't given
-abbrev pub defaulted : List Row → List Row
-defaulted rows = if has_row (codes "report") rows then rows else rows ++ report_row ∷ []
+-- the rows with a flag's default behind them, where it isn't given
+abbrev pub with_flag : Text → List Row → List Row
+with_flag id rows = if has_row id rows then rows else rows ++ flag_row id ∷ []
 
-flag_default : (rows : List Row) → with_default rows report_rule ≡ defaulted rows
-unfolding report_rule
-flag_default rows = go (has_row (codes "report") rows) refl
+-- so for each flag
+abbrev pub defaulted : List Row → List Row
+defaulted rows = with_flag (codes "channels") (with_flag (codes "report") rows)
+
+flag_default : (id : Text) (rows : List Row) → with_default rows (filled (flag_rule id)) ≡ with_flag id rows
+flag_default id rows = go (has_row id rows) refl
   where
-    go : (b : Bool) → has_row (codes "report") rows ≡ b → with_default rows report_rule ≡ defaulted rows
+    go : (b : Bool) → has_row id rows ≡ b → with_default rows (filled (flag_rule id)) ≡ with_flag id rows
     go true given = rw given refl
-    go false none = rw none (first_values (codes "report") reading.AsWritten DefaultValue (codes "false" ∷ []) rows none)
+    go false none = rw none (first_values id reading.AsWritten DefaultValue (codes "false" ∷ []) rows none)
 
 all_defaults : (rows : List Row) → fold with_default rows shape.rules ≡ defaulted rows
 all_defaults rows =
+    let first : Rule = filled (flag_rule (codes "report")) in
+    let second : Rule = filled (flag_rule (codes "channels")) in
     ap (fold with_default rows) rules_are
-    ∙ fold-append with_default rows (take 7 shape.rules) (report_rule ∷ drop 8 shape.rules)
-    ∙ ap (λ more. fold with_default more (report_rule ∷ drop 8 shape.rules)) (no_defaults (take 7 shape.rules) rows none_before)
-    ∙ ap (λ more. fold with_default more (drop 8 shape.rules)) (flag_default rows)
-    ∙ no_defaults (drop 8 shape.rules) (defaulted rows) none_behind
+    ∙ fold-append with_default rows (take 7 shape.rules) (first ∷ second ∷ drop 9 shape.rules)
+    ∙ ap (λ more. fold with_default more (first ∷ second ∷ drop 9 shape.rules)) (no_defaults (take 7 shape.rules) rows none_before)
+    ∙ ap (λ more. fold with_default more (second ∷ drop 9 shape.rules)) (flag_default (codes "report") rows)
+    ∙ ap (λ more. fold with_default more (drop 9 shape.rules)) (flag_default (codes "channels") (with_flag (codes "report") rows))
+    ∙ no_defaults (drop 9 shape.rules) (defaulted rows) none_behind
 
 -- ---- the matches
 
@@ -112,44 +117,30 @@ pub passed_over : (id : Text) → ((k : Setting) → bytes_eq (name_of k) id ≡
 passed_over id other [] tail = refl
 passed_over id other (c ∷ cs) tail = rw (other c.setting) (passed_over id other cs tail)
 
+-- the setting of a name
+setting_named : Text → Option Setting
+setting_named t =
+    if bytes_eq t (codes "N") then Some number else (if bytes_eq t (codes "seed") then Some seed else (if bytes_eq t (codes "horizon") then Some horizon
+    else (if bytes_eq t (codes "limit") then Some limit else (if bytes_eq t (codes "workers") then Some workers
+    else (if bytes_eq t (codes "report") then Some report else (if bytes_eq t (codes "channels") then Some channels else None))))))
+
+its_name : (k : Setting) → setting_named (name_of k) ≡ Some k
+unfolding setting_named
+its_name number = refl
+its_name seed = refl
+its_name horizon = refl
+its_name limit = refl
+its_name workers = refl
+its_name report = refl
+its_name channels = refl
+
+some_same : (j k : Setting) → Some j ≡ Some k → j ≡ k
+some_same j k e = cc
+
 -- settings of one name are one setting
 same_setting : (j k : Setting) → bytes_eq (name_of j) (name_of k) ≡ true → j ≡ k
-same_setting number number e = refl
-same_setting number seed e = cc e
-same_setting number horizon e = cc e
-same_setting number limit e = cc e
-same_setting number workers e = cc e
-same_setting number report e = cc e
-same_setting seed number e = cc e
-same_setting seed seed e = refl
-same_setting seed horizon e = cc e
-same_setting seed limit e = cc e
-same_setting seed workers e = cc e
-same_setting seed report e = cc e
-same_setting horizon number e = cc e
-same_setting horizon seed e = cc e
-same_setting horizon horizon e = refl
-same_setting horizon limit e = cc e
-same_setting horizon workers e = cc e
-same_setting horizon report e = cc e
-same_setting limit number e = cc e
-same_setting limit seed e = cc e
-same_setting limit horizon e = cc e
-same_setting limit limit e = refl
-same_setting limit workers e = cc e
-same_setting limit report e = cc e
-same_setting workers number e = cc e
-same_setting workers seed e = cc e
-same_setting workers horizon e = cc e
-same_setting workers limit e = cc e
-same_setting workers workers e = refl
-same_setting workers report e = cc e
-same_setting report number e = cc e
-same_setting report seed e = cc e
-same_setting report horizon e = cc e
-same_setting report limit e = cc e
-same_setting report workers e = cc e
-same_setting report report e = refl
+same_setting j k e =
+    some_same j k (sym (its_name j) ∙ ap setting_named ((bytes_eq-Decides (name_of j) (name_of k)).0 e) ∙ its_name k)
 
 -- the value of a setting that is found is the one that is said
 pub first_said : (k : Setting) (cs : List Choice) (tail : List Row) → first_of (name_of k) tail ≡ None →
@@ -163,25 +154,64 @@ first_said k (c ∷ cs) tail none = go (bytes_eq (name_of c.setting) (name_of k)
     go true rest same = refl
     go false rest same = same
 
--- a setting of which no row is found isn't said
-pub not_said : (k : Setting) (cs : List Choice) → has_row (name_of k) (map row_of_choice cs) ≡ false → said k cs ≡ None
-not_said k [] none = refl
-not_said k (c ∷ cs) none = go (bytes_eq (name_of c.setting) (name_of k)) (not_said k cs) none
-  where
-    go : (b : Bool) → (has_row (name_of k) (map row_of_choice cs) ≡ false → said k cs ≡ None) → (b || has_row (name_of k) (map row_of_choice cs)) ≡ false →
-        (if b then Some c.value else said k cs) ≡ None
-    go true same e = cc e
-    go false same e = same e
+-- ---- what the flags' defaults add
 
--- where no row is found the value is found behind
-pub found_behind : (id : Text) (rows tail : List Row) → has_row id rows ≡ false → first_of id (rows ++ tail) ≡ first_of id tail
-found_behind id [] tail none = refl
-found_behind id (r ∷ rows) tail none = go (bytes_eq r.id id) (found_behind id rows tail) none
+-- a row of another name isn't found
+behind_other : (id : Text) (r : Row) → bytes_eq r.id id ≡ false → (rows : List Row) → first_of id (rows ++ r ∷ []) ≡ first_of id rows
+behind_other id r other [] = rw other refl
+behind_other id r other (x ∷ rows) = go (bytes_eq x.id id) (behind_other id r other rows)
+  where
+    go : (b : Bool) → first_of id (rows ++ r ∷ []) ≡ first_of id rows →
+        option_and_then (λ (y : Row). slice_get y.values 0) (cond b (Some x) (find (λ y. bytes_eq y.id id) (rows ++ r ∷ [])))
+        ≡ option_and_then (λ (y : Row). slice_get y.values 0) (cond b (Some x) (find (λ y. bytes_eq y.id id) rows))
+    go true same = refl
+    go false same = same
+
+-- where there is no row nothing is found, and behind it what follows
+none_found : (id : Text) (rows tail : List Row) → has_row id rows ≡ false → first_of id (rows ++ tail) ≡ first_of id tail
+none_found id [] tail none = refl
+none_found id (r ∷ rows) tail none = go (bytes_eq r.id id) (none_found id rows tail) none
   where
     go : (b : Bool) → (has_row id rows ≡ false → first_of id (rows ++ tail) ≡ first_of id tail) → (b || has_row id rows) ≡ false →
         option_and_then (λ (r : Row). slice_get r.values 0) (cond b (Some r) (find (λ r. bytes_eq r.id id) (rows ++ tail))) ≡ first_of id tail
     go true same e = cc e
     go false same e = same e
+
+-- the default of a flag changes no other value
+flag_passed : (id flag : Text) → bytes_eq flag id ≡ false → (rows : List Row) → first_of id (with_flag flag rows) ≡ first_of id rows
+flag_passed id flag other rows = go (has_row flag rows)
+  where
+    go : (b : Bool) → first_of id (if b then rows else rows ++ flag_row flag ∷ []) ≡ first_of id rows
+    go true = refl
+    go false = behind_other id (flag_row flag) other rows
+
+-- and doesn't say that it's given
+flag_kept : (flag : Text) → is_yes (first_of flag (flag_row flag ∷ [])) ≡ false → (rows : List Row) →
+    is_yes (first_of flag (with_flag flag rows)) ≡ is_yes (first_of flag rows)
+flag_kept flag unsaid rows = go (has_row flag rows) refl
+  where
+    go : (b : Bool) → has_row flag rows ≡ b → is_yes (first_of flag (if b then rows else rows ++ flag_row flag ∷ [])) ≡ is_yes (first_of flag rows)
+    go true given = refl
+    go false none =
+        ap is_yes (none_found flag rows (flag_row flag ∷ []) none) ∙ unsaid
+        ∙ sym (ap is_yes (ap (first_of flag) (sym (append-nil rows)) ∙ none_found flag rows [] none))
+
+-- a value that isn't a flag's is the same with their defaults
+value_kept : (id : Text) → bytes_eq (codes "report") id ≡ false → bytes_eq (codes "channels") id ≡ false → (rows : List Row) →
+    first_of id (defaulted rows) ≡ first_of id rows
+value_kept id first second rows = flag_passed id (codes "channels") second (with_flag (codes "report") rows) ∙ flag_passed id (codes "report") first rows
+
+pub defaults_give : (rows : List Row) → given_in (defaulted rows) ≡ given_in rows
+defaults_give rows =
+    let counted = value_kept (codes "N") refl refl rows in
+    let first = value_kept (codes "seed") refl refl rows in
+    let second = value_kept (codes "horizon") refl refl rows in
+    let third = value_kept (codes "limit") refl refl rows in
+    let fourth = value_kept (codes "workers") refl refl rows in
+    let fifth = value_kept (codes "steps") refl refl rows in
+    let told = ap is_yes (flag_passed (codes "report") (codes "channels") refl (with_flag (codes "report") rows)) ∙ flag_kept (codes "report") refl rows in
+    let listed = flag_kept (codes "channels") refl (with_flag (codes "report") rows) ∙ ap is_yes (flag_passed (codes "channels") (codes "report") refl rows) in
+    cc (counted, first, second, third, fourth, fifth, told, listed)
 
 -- a value that is said is right
 abbrev pub IsRightIn : Setting → Option Text → Type 0

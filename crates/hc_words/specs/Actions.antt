@@ -2,7 +2,7 @@
 use Rattle.std.specs.Prelude.{Bool, true, false, not, ◌&&◌, ◌||◌, Option, Some, None, codes}
 use Rattle.clap.specs.Walk.{Text}
 use Rattle.hc_words.specs.declared.actions.Action.{Action}
-use Rattle.hc_words.specs.declared.actions.Action.TheVariants.{Check, Print, Simulate, Make}
+use Rattle.hc_words.specs.declared.actions.Action.TheVariants.{Check, Print, Simulate, Channels, Make}
 use Rattle.hc_words.specs.declared.actions.Room.{Room}
 use Rattle.hc_words.specs.Line.{Given}
 
@@ -10,16 +10,18 @@ abbrev pub name_of_action : Action → Text
 name_of_action Check = codes "check"
 name_of_action Print = codes "print"
 name_of_action Simulate = codes "simulate"
+name_of_action Channels = codes "channels"
 name_of_action Make = codes "make"
 
 abbrev pub nothing : Room
-nothing = record { number = false; seed = false; horizon = false; limit = false; workers = false; steps = false; report = false }
+nothing = record { number = false; seed = false; horizon = false; limit = false; workers = false; steps = false; report = false; channels = false }
 
 -- the table: what may stand behind an action, one line each
 abbrev pub room_of : Action → Room
 room_of Check = nothing
 room_of Print = nothing
 room_of Simulate = record nothing { seed = true; horizon = true; limit = true }
+room_of Channels = record nothing { seed = true; horizon = true; limit = true }
 room_of Make = record nothing { number = true; seed = true }
 
 -- the one action of the call that runs on threads, and its row
@@ -27,7 +29,7 @@ abbrev pub name_of_run : Text
 name_of_run = codes "run"
 
 abbrev pub room_of_run : Room
-room_of_run = record nothing { seed = true; horizon = true; limit = true; workers = true; report = true }
+room_of_run = record nothing { seed = true; horizon = true; limit = true; workers = true; report = true; channels = true }
 
 -- N is given exactly where it's wanted
 abbrev pub is_wanted : Bool → Option Text → Bool
@@ -43,7 +45,7 @@ allows room (Some t) = room
 abbrev pub fits : Room → Given → Bool
 fits room g =
     is_wanted room.number g.number && allows room.seed g.seed && allows room.horizon g.horizon && allows room.limit g.limit
-    && allows room.workers g.workers && allows room.steps g.steps && (room.report || not g.report)
+    && allows room.workers g.workers && allows room.steps g.steps && (room.report || not g.report) && (room.channels || not g.channels)
 
 abbrev pub belongs : Action → Given → Bool
 belongs action g = fits (room_of action) g

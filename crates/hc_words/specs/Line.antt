@@ -20,14 +20,14 @@ option_rule id = record (new_rule id) { long = Some id }
 abbrev pub flag_rule : Text → Rule
 flag_rule id = record (new_rule id) { long = Some id; action = Some SetTrue }
 
--- two words by their places, five options and a flag
+-- two words by their places, five options and two flags
 unfoldable pub hcsp : App
 hcsp =
-    with_rule (with_rule (with_rule (with_rule (with_rule (with_rule (with_rule (with_rule (new_app (codes "hcsp"))
+    with_rule (with_rule (with_rule (with_rule (with_rule (with_rule (with_rule (with_rule (with_rule (new_app (codes "hcsp"))
     (word_rule (codes "ACTION"))) (word_rule (codes "N")))
     (option_rule (codes "seed"))) (option_rule (codes "horizon"))) (option_rule (codes "limit")))
     (option_rule (codes "workers"))) (option_rule (codes "steps")))
-    (flag_rule (codes "report"))
+    (flag_rule (codes "report"))) (flag_rule (codes "channels"))
 
 abbrev pub is_nothing : Kinds → Bool
 is_nothing [] = true
@@ -37,7 +37,7 @@ is_nothing (k ∷ ks) = false
 abbrev pub is_taken : List Text → Bool
 is_taken words = is_nothing (fault_of hcsp words)
 
--- what stands behind the action: N, the value of each option, and whether the flag is given
+-- what stands behind the action: N, the value of each option, and whether each flag is given
 pub record Given : Type 0 where
   pub number : Option Text
   pub seed : Option Text
@@ -46,8 +46,9 @@ pub record Given : Type 0 where
   pub workers : Option Text
   pub steps : Option Text
   pub report : Bool
+  pub channels : Bool
 
--- the flag is given
+-- a flag is given
 abbrev pub is_yes : Option Text → Bool
 is_yes flag = option_map_or (λ t. bytes_eq t (codes "true")) flag false
 
@@ -60,6 +61,7 @@ given_in rows = record {
   workers = first_of (codes "workers") rows;
   steps = first_of (codes "steps") rows;
   report = is_yes (first_of (codes "report") rows);
+  channels = is_yes (first_of (codes "channels") rows);
 }
 
 -- what the words give, where clap takes them

@@ -19,6 +19,7 @@ pub data Setting : Type 0 where
   limit : Setting
   workers : Setting
   report : Setting
+  channels : Setting
 
 abbrev pub name_of : Setting → Text
 name_of number = codes "N"
@@ -27,6 +28,7 @@ name_of horizon = codes "horizon"
 name_of limit = codes "limit"
 name_of workers = codes "workers"
 name_of report = codes "report"
+name_of channels = codes "channels"
 
 -- N stands for itself, without its name
 abbrev pub is_number : Setting → Bool
@@ -36,6 +38,7 @@ is_number _ = false
 -- a flag has no value behind it; that it's there is the value `true`
 abbrev pub is_flag : Setting → Bool
 is_flag report = true
+is_flag channels = true
 is_flag _ = false
 
 -- a setting with its value
@@ -61,6 +64,7 @@ IsRight horizon t = (q : Rational) × IsFractionText t q × IsTrue (is_positive 
 IsRight limit t = (n : ℕ) × (number_within 1 most_steps t ≡ Some n)
 IsRight workers t = (n : ℕ) × (number_within 1 most_workers t ≡ Some n)
 IsRight report t = t ≡ codes "true"
+IsRight channels t = t ≡ codes "true"
 
 abbrev pub is_other : Choice → Choice → Bool
 is_other c d = not (bytes_eq (name_of c.setting) (name_of d.setting))
@@ -78,6 +82,7 @@ has room horizon = room.horizon
 has room limit = room.limit
 has room workers = room.workers
 has room report = room.report
+has room channels = room.channels
 
 -- the value of a setting, where it's chosen
 abbrev pub said : Setting → List Choice → Option Text
@@ -114,4 +119,5 @@ given_by cs = record {
   workers = said workers cs;
   steps = None;
   report = is_yes (said report cs);
+  channels = is_yes (said channels cs);
 }

@@ -7,7 +7,7 @@ use Rattle.hc_rational.specs.Rational.{whole}
 use Rattle.hc_words.specs.declared.actions.Action.{Action}
 use Rattle.hc_words.specs.declared.actions.Action.TheVariants as act
 use Rattle.hc_words.specs.declared.requests.Request.{Request}
-use Rattle.hc_words.specs.declared.requests.Request.TheVariants.{Check, Print, Simulate, Make}
+use Rattle.hc_words.specs.declared.requests.Request.TheVariants.{Check, Print, Simulate, Channels, Make}
 use Rattle.hc_words.specs.declared.settings.Made.{Made}
 use Rattle.hc_words.specs.declared.settings.RunRequest.{RunRequest}
 use Rattle.hc_words.specs.declared.settings.Settings.{Settings}
@@ -51,6 +51,7 @@ abbrev pub Asks : Action → Given → Request → Type 0
 Asks act.Check g r = r ≡ Check
 Asks act.Print g r = r ≡ Print
 Asks act.Simulate g r = (s : Settings) × AreSettings g s × (r ≡ Simulate s)
+Asks act.Channels g r = (s : Settings) × AreSettings g s × (r ≡ Channels s)
 Asks act.Make g r = (m : Made) × IsMade g m × (r ≡ Make m)
 
 -- the words ask for this: clap takes them, and behind the program's name stands an action with what belongs to it
@@ -71,6 +72,7 @@ pub record IsRun (g : Given) (r : RunRequest) : Type 0 where
   pub set : AreSettings g r.settings
   pub workers : workers_in g.workers ≡ Some r.workers
   pub report : r.report ≡ g.report
+  pub channels : r.channels ≡ g.channels
 
 -- the words ask for this run: clap takes them, and behind the program's name stands `run` with what belongs to it
 pub record AskRun (words : List Text) (request : RunRequest) : Type 0 where

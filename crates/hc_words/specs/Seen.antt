@@ -18,6 +18,7 @@ seen g = record {
   workers = option_map (λ s. s.now) g.workers;
   steps = option_map (λ s. s.now) g.steps;
   report = g.report;
+  channels = g.channels;
 }
 
 -- an action of this name asks for the request, and all that is given belongs to it

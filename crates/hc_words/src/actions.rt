@@ -13,10 +13,11 @@ pub enum Action {
     Check,
     Print,
     Simulate,
+    Channels,
     Make,
 }
 
-/// What stands behind an action: N where it must, each option and the flag where they may.
+/// What stands behind an action: N where it must, each option and each flag where they may.
 #[derive(Clone, Copy, Debug, PartialEq, Eq)]
 pub struct Room {
     pub number: bool,
@@ -26,6 +27,7 @@ pub struct Room {
     pub workers: bool,
     pub steps: bool,
     pub report: bool,
+    pub channels: bool,
 }
 
 const NOTHING: Room = Room {
@@ -36,6 +38,7 @@ const NOTHING: Room = Room {
     workers: false,
     steps: false,
     report: false,
+    channels: false,
 };
 
 /// What stands behind `run`.
@@ -45,6 +48,7 @@ pub(crate) const RUN: Room = Room {
     limit: true,
     workers: true,
     report: true,
+    channels: true,
     ..NOTHING
 };
 
@@ -57,6 +61,7 @@ pub(crate) fn action_named(name: &str) -> Option<Action>
         "check" => Some(Action::Check),
         "print" => Some(Action::Print),
         "simulate" => Some(Action::Simulate),
+        "channels" => Some(Action::Channels),
         "make" => Some(Action::Make),
         _ => None,
     }
@@ -68,7 +73,7 @@ fn room_of(action: Action) -> Room
 {
     match action {
         Action::Check | Action::Print => NOTHING,
-        Action::Simulate => Room {
+        Action::Simulate | Action::Channels => Room {
             seed: true,
             horizon: true,
             limit: true,
@@ -113,6 +118,7 @@ pub(crate) fn fits(room: Room, given: &Given<'_>) -> bool
         & allows(room.workers, given.workers)
         & allows(room.steps, given.steps)
         & (room.report | !given.report)
+        & (room.channels | !given.channels)
 }
 
 /// Whether all that is given belongs to the action.

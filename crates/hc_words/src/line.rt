@@ -23,6 +23,7 @@ pub(crate) struct Given<'a> {
     pub(crate) workers: Option<&'a str>,
     pub(crate) steps: Option<&'a str>,
     pub(crate) report: bool,
+    pub(crate) channels: bool,
 }
 
 /// A word by its place.
@@ -60,7 +61,8 @@ fn command<'a>(alloc: Global) -> Result<Command<'a>, AllocError>
         .arg(option_arg(alloc, "limit"))?
         .arg(option_arg(alloc, "workers"))?
         .arg(option_arg(alloc, "steps"))?
-        .arg(flag_arg(alloc, "report"))
+        .arg(flag_arg(alloc, "report"))?
+        .arg(flag_arg(alloc, "channels"))
 }
 
 fn is_yes(flag: Option<&str>) -> bool
@@ -83,6 +85,7 @@ fn given_of<'a>(matches: &ArgMatches<'a>) -> Given<'a>
         workers: matches.get_str("workers"),
         steps: matches.get_str("steps"),
         report: is_yes(matches.get_str("report")),
+        channels: is_yes(matches.get_str("channels")),
     }
 }
 

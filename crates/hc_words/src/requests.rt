@@ -28,6 +28,8 @@ pub enum Request {
     Print,
     /// To simulate the source that is read.
     Simulate(Settings),
+    /// To simulate the source that is read, and tell what is handed over on each channel.
+    Channels(Settings),
     /// To make a source, simulate it, and tell the size of its run.
     Make(Made),
 }
@@ -76,6 +78,10 @@ fn request_by(action: Action, given: &Given<'_>) -> Option<Request>
         Action::Simulate => {
             let settings = settings_of(given)?;
             Some(Request::Simulate(settings))
+        }
+        Action::Channels => {
+            let settings = settings_of(given)?;
+            Some(Request::Channels(settings))
         }
         Action::Make => {
             let made = made_of(given)?;

@@ -48,6 +48,7 @@ fn run_of(given: &Given<'_>) -> Option<RunRequest>
         settings,
         workers,
         report: given.report,
+        channels: given.channels,
     })
 }
 

@@ -37,5 +37,7 @@ pub struct RunRequest {
     pub workers: u32,
     /// Whether the numbers of turns are told.
     pub report: bool,
+    /// Whether what is handed over on each channel is told in the place of the trace.
+    pub channels: bool,
     pub ghost few: { (1 ≤ workers) × (workers ≤ most_workers) },
 }

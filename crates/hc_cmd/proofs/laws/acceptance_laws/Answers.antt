@@ -3,8 +3,10 @@ use Rattle.hc_ast.specs.declared.tree.Tree.{Tree}
 use Rattle.hc_modules.specs.declared.flat.Flat.{Flat}
 use Rattle.hc_modules.specs.Refusals.{IsExpansion}
 use Rattle.hc_check.specs.Checked.{IsChecked}
-use Rattle.hc_cmd.proofs.OneReply.{Decided, one_answer, text_accepted, simulation_tells, made_tells}
-use Rattle.hc_cmd.proofs.RunReplies.{run_tells}
+use Rattle.hc_term.specs.TraceText.{whole}
+use Rattle.hc_det.specs.Text.{channels_text}
+use Rattle.hc_cmd.proofs.OneReply.{Decided, one_answer, text_accepted, task_tells, made_tells}
+use Rattle.hc_cmd.proofs.RunReplies.{run_tells, run_lists}
 use Rattle.hc_cmd.proofs.laws.acceptance_laws.Goals as goal
 
 pub returns : goal.returns
@@ -29,8 +31,13 @@ returns c =
       one_answer = one_answer decided;
       sized = λ text system reply accepted a. text_accepted decided _ text system reply accepted a;
       simulated = λ settings text system reply accepted a.
-          simulation_tells c.step_laws.ensures.canonical settings system reply (text_accepted decided _ text system reply accepted a);
+          task_tells c.step_laws.ensures.canonical whole settings system reply (text_accepted decided _ text system reply accepted a);
+      listed = λ settings text system reply accepted a.
+          task_tells c.step_laws.ensures.canonical channels_text settings system reply (text_accepted decided _ text system reply accepted a);
       made = λ made text system reply accepted a.
           made_tells c.step_laws.ensures.canonical made system reply (text_accepted decided _ _ system reply accepted a);
       run = λ asked text system reply accepted a. run_tells asked system reply (text_accepted decided _ text system reply accepted a);
+      no_schedule = λ asked text system task reply other accepted single parts settled channels r s.
+          run_lists c.step_laws.ensures.canonical c.channel_laws.ensures asked system task reply other single parts settled channels
+          (text_accepted decided _ text system reply accepted r) (text_accepted decided _ text system other accepted s);
     }

@@ -1,5 +1,5 @@
 use Rattle.std.proofs.Common.{◌∙◌}
-use Rattle.hc_cmd.proofs.MadeRuns.{horizon_value, horizon_fits}
+use Rattle.hc_cmd.proofs.Courses.{horizon_value, horizon_fits}
 use Rattle.hc_cmd.proofs.making.made_horizon.Goals as goal
 
 pub unreachable-requires : goal.unreachable-requires

@@ -1,7 +1,7 @@
 use Rattle.std.proofs.Common.{sym, subst, arith}
 use Rattle.std.specs.Prelude.{IsTrue}
 use Rattle.hc_rational.specs.Words.{Rational, is_positive}
-use Rattle.hc_cmd.proofs.MadeRuns.{horizon_positive}
+use Rattle.hc_cmd.proofs.Courses.{horizon_positive}
 use Rattle.hc_cmd.proofs.making.made_settings.Goals as goal
 
 pub invariant_of-result : goal.invariant_of-result

@@ -4,7 +4,7 @@ use Rattle.hc_term.specs.declared.run.Stop.{Stop}
 use Rattle.hc_term.specs.Canonical.{canonical}
 use Rattle.hc_joint.specs.Keeps.{HasCourse}
 use Rattle.hc_cmd.specs.Made.{line_of}
-use Rattle.hc_cmd.proofs.MadeRuns.{finished_course}
+use Rattle.hc_cmd.proofs.Courses.{finished_course}
 use Rattle.hc_cmd.proofs.making.run_line.Goals as goal
 
 pub returns : goal.returns

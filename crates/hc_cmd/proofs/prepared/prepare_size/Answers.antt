@@ -1,4 +1,3 @@
-use Rattle.std.proofs.Common.{ap}
 use Rattle.std.proofs.lemmas.Result.{err_from_is_err_and}
 use Rattle.hc_cmd.proofs.Finding.{memory_or, not_accepted, accepts, done_so}
 use Rattle.hc_cmd.proofs.prepared.prepare_size.Goals as goal

@@ -1,4 +1,4 @@
-use Rattle.std.proofs.Common.{◌≡◌}
+use Rattle.std.proofs.Common.{◌≡◌, ◌∙◌}
 use Rattle.std.proofs.lemmas.Result.{err_from_is_err_and}
 use Rattle.hc_print.specs.Canonical.{canonical}
 use Rattle.hc_cmd.specs.Answers.{source}
@@ -11,4 +11,4 @@ returns-in_err-tree c =
     rw (exit.1, exit.2) (memory_or _ _ (no_tree _ c.args.text.now) c.in_err-tree.field-0.0 c.in_err-tree.ensures)
 
 pub returns : goal.returns
-returns c = (tt, source c.in_ok-tree.tree c.in_ok-tree.ensures (done_so _ _ (ok_found (λ text. text.items ≡ canonical c.in_ok-tree.tree) _ c.print.result c.map_err.result c.in_ok-bytes.bytes c.print.ensures.canonical c.map_err.ensures.cases c.in_ok-bytes.was)))
+returns c = (tt, source c.in_ok-tree.tree c.in_ok-tree.ensures (c.done.ensures ∙ done_so _ _ (ok_found (λ text. text.items ≡ canonical c.in_ok-tree.tree) _ c.print.result c.map_err.result c.in_ok-bytes.bytes c.print.ensures.canonical c.map_err.ensures.cases c.in_ok-bytes.was)))

@@ -14,5 +14,8 @@ pub returns-in-Simulate : goal.returns-in-Simulate
 returns-in-Simulate c =
     subst (λ (r : Request). Prepares (Answers r c.args.text.now) c.prepare_simulation.result) (sym c.in-Simulate.is) c.prepare_simulation.ensures
 
+pub returns-in-Channels : goal.returns-in-Channels
+returns-in-Channels c = subst (λ (r : Request). Prepares (Answers r c.args.text.now) c.prepare_listing.result) (sym c.in-Channels.is) c.prepare_listing.ensures
+
 pub returns-in-Make : goal.returns-in-Make
 returns-in-Make c = subst (λ (r : Request). Prepares (Answers r c.args.text.now) c.prepare_made.result) (sym c.in-Make.is) c.prepare_made.ensures

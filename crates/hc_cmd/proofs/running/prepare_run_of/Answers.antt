@@ -1,9 +1,14 @@
 use Rattle.std.specs.Prelude.{IsSome}
 use Rattle.std.proofs.lemmas.Result.{err_from_is_err_and}
 use Rattle.hc_cmd.specs.declared.running.Run.{Run}
+use Rattle.hc_cmd.specs.Answers.{OfSource}
 use Rattle.hc_cmd.specs.Running.{Runs, told}
-use Rattle.hc_cmd.proofs.Finding.{memory_or, not_accepted, accepts, ok_found}
+use Rattle.hc_cmd.proofs.Finding.{memory_or, not_accepted, accepts, ok_found, prepared_so}
 use Rattle.hc_cmd.proofs.running.prepare_run_of.Goals as goal
+
+pub told_of-requires : goal.told_of-requires
+told_of-requires g c =
+    ok_found (λ (r : Run). IsSome r.joint.stop) _ c.complete.result c.map_err.result c.in_ok-over.over c.complete.ensures.stopped c.map_err.ensures.cases c.in_ok-over.was
 
 pub returns-in_err-system : goal.returns-in_err-system
 returns-in_err-system g c =
@@ -14,8 +19,7 @@ pub returns : goal.returns
 returns g c =
     let asked = c.args.asked in
     let system = c.in_ok-system.system in
-    let done = c.in_ok-over.over in
-    let stopped = ok_found (λ (r : Run). IsSome r.joint.stop) _ c.complete.result c.map_err.result done c.complete.ensures.stopped c.map_err.ensures.cases c.in_ok-over.was in
-    let runs = ok_found (λ (r : Run). Runs asked system (told r.joint r.report.items)) _
-    c.complete.result c.map_err.result done c.complete.ensures.runs c.map_err.ensures.cases c.in_ok-over.was in
-    (stopped, accepts _ c.args.text.now _ system c.in_ok-system.ensures _ runs)
+    let runs = ok_found (λ (r : Run). Runs asked system (told asked.channels r.joint r.report.items)) _
+    c.complete.result c.map_err.result c.in_ok-over.over c.complete.ensures.runs c.map_err.ensures.cases c.in_ok-over.was in
+    prepared_so (OfSource (λ flat. Runs asked) c.args.text.now) _ c.told_of.result
+    (accepts _ c.args.text.now _ system c.in_ok-system.ensures _ runs) c.told_of.ensures

@@ -14,4 +14,5 @@ returns c =
     let a5 = with_one _ _ _ _ _ c.in_ok-arg-5.ensures c.option_arg-3.ensures.local a4 c.option_arg-3.ensures.rule in
     let a6 = with_one _ _ _ _ _ c.in_ok-arg-6.ensures c.option_arg-4.ensures.local a5 c.option_arg-4.ensures.rule in
     let a7 = with_one _ _ _ _ _ c.in_ok-arg-7.ensures c.option_arg-5.ensures.local a6 c.option_arg-5.ensures.rule in
-    IfOk-weaker c.arg-8.result _ _ (λ r adds. with_one _ _ r _ _ adds c.flag_arg.ensures.local a7 c.flag_arg.ensures.rule) c.arg-8.ensures
+    let a8 = with_one _ _ _ _ _ c.in_ok-arg-8.ensures c.flag_arg.ensures.local a7 c.flag_arg.ensures.rule in
+    IfOk-weaker c.arg-9.result _ _ (λ r adds. with_one _ _ r _ _ adds c.flag_arg-2.ensures.local a8 c.flag_arg-2.ensures.rule) c.arg-9.ensures

@@ -15,4 +15,6 @@ returns c =
     let steps = c.get_str-6.ensures ∙ first_value-rows found (codes "steps") in
     let flag = c.get_str-7.ensures ∙ first_value-rows found (codes "report") in
     let report = c.is_yes.ensures ∙ ap is_yes flag in
-    cc (number, seed, horizon, limit, workers, steps, report)
+    let other = c.get_str-8.ensures ∙ first_value-rows found (codes "channels") in
+    let channels = c.is_yes-2.ensures ∙ ap is_yes other in
+    cc (number, seed, horizon, limit, workers, steps, report, channels)

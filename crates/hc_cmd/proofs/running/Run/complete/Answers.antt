@@ -12,5 +12,5 @@ returns-clause-runs g c =
       turns = outcome.turns.items;
       own = outcome.own_turns;
       outcome = c.in_ok-outcome.ensures;
-      stands = ap (told outcome.joint) c.in_ok-report.ensures;
+      stands = ap (told c.args.asked.channels outcome.joint) c.in_ok-report.ensures;
     }
