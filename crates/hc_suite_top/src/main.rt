@@ -2,11 +2,13 @@
 //! trace texts that are read.
 #![tactic(auto)]
 
+mod again;
 mod calling;
 mod reports;
 mod tracing;
 mod worlds;
 
+use again::again;
 use calling::{answer_of, source_of};
 use std::alloc::{AllocError, Global};
 use std::io;
@@ -14,8 +16,8 @@ use std::sync::Wait;
 use std::thread::Threads;
 use tracing::{place_of, trace_of};
 
-/// The answer to a row `WORDS | WORLD | SOURCE`, or `read_trace | | TEXT` or `split_text | | TEXT`. Any other line stands
-/// for itself.
+/// The answer to a row `WORDS | WORLD | SOURCE`, or `channels_again TIMES WORKERS | | SOURCE`, `read_trace | | TEXT` or
+/// `split_text | | TEXT`. Any other line stands for itself.
 fn answer_to<R: Threads + Wait + Sync>(
     rt: &R,
     alloc: Global,
@@ -30,7 +32,10 @@ fn answer_to<R: Threads + Wait + Sync>(
     match words.trim() {
         "read_trace" => trace_of(alloc, source_of(alloc, text)?.as_slice()),
         "split_text" => place_of(alloc, source_of(alloc, text)?.as_slice()),
-        _ => answer_of(rt, alloc, words, world, text),
+        words => match words.strip_prefix("channels_again ") {
+            Some(numbers) => again(rt, alloc, numbers, text),
+            None => answer_of(rt, alloc, words, world, text),
+        },
     }
 }
 
