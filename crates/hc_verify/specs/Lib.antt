@@ -1,0 +1,9 @@
+pub mod Ending
+pub mod Following
+pub mod Halting
+pub mod Judging
+pub mod Named
+pub mod Places
+pub mod Stands
+pub mod States
+pub mod Timing

@@ -1,0 +1,11 @@
+//! Whether a trace is one of a behaviour of a task.
+#![tactic(auto)]
+
+mod ending;
+mod following;
+mod halting;
+mod member;
+mod members;
+mod names;
+mod timing;
+mod walk;
