@@ -1,9 +1,12 @@
 pub mod Beside
 pub mod Begun
+pub mod BothHalting
+pub mod Counted
 pub mod Delaying
 pub mod EndOfTrace
 pub mod LineByLine
 pub mod Logging
+pub mod MeetingLine
 pub mod Moves
 pub mod Named
 pub mod Opened

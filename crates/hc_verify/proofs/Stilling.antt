@@ -32,7 +32,7 @@ use Rattle.hc_verify.proofs.Logging.{is_there, same_number}
 
 module _ (t : Task) (clock : Rational) where
   -- no stroll is longer than one to where there is no step
-  longest : (p n m : ℕ) (q r s : ProcessState) → Strolls t clock p n q r → Strolls t clock p m q s → HasNoStep t clock p s → n ≤ m
+  pub longest : (p n m : ℕ) (q r s : ProcessState) → Strolls t clock p n q r → Strolls t clock p m q s → HasNoStep t clock p s → n ≤ m
   longest p zero m q r s h k j = omega arith
   longest p (suc n) zero q r s h k j = absurd (j None h.0 (ap (silent t.seed p clock) (sym k) ∙ h.1))
   longest p (suc n) (suc m) q r s h k j =
@@ -75,7 +75,7 @@ pub all_shown : (sys : System) (w : Walk) (c : Configuration) → IsAt sys w c �
 all_shown sys w c at = ap (λ (l : List Post). length l) at.shown ∙ length-map c.processes (post c.clock) ∙ sym at.members.counted
 
 -- the steps of one of those that moved
-stroll_in : (t : Task) (clock : Rational) (from at n : ℕ) (qs rs : List ProcessState) (q r : ProcessState) →
+pub stroll_in : (t : Task) (clock : Rational) (from at n : ℕ) (qs rs : List ProcessState) (q r : ProcessState) →
     AllStroll everyone t clock from n qs rs → slice_get qs at ≡ Some q → slice_get rs at ≡ Some r →
     (k : ℕ) × Strolls t clock (from + at) k q r
 stroll_in t clock from at n [] [] q r h e f = cc

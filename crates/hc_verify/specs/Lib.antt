@@ -1,3 +1,4 @@
+pub mod Communicating
 pub mod Ending
 pub mod Following
 pub mod Halting

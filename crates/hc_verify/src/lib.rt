@@ -4,6 +4,7 @@
 mod ending;
 mod following;
 mod halting;
+mod meeting;
 mod member;
 mod members;
 mod names;
