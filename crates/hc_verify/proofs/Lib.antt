@@ -1,10 +1,12 @@
-pub mod Beside
+pub mod Along
 pub mod Begun
+pub mod Beside
 pub mod BothHalting
 pub mod Counted
 pub mod Delaying
-pub mod EndOfTrace
+pub mod EndReached
 pub mod LineByLine
+pub mod LineNamed
 pub mod Logging
 pub mod MeetingLine
 pub mod Moves
@@ -16,6 +18,8 @@ pub mod Places
 pub mod Running
 pub mod Showing
 pub mod Shows
+pub mod Spending
+pub mod StandingStill
 pub mod Stilling
 pub mod Strolled
 pub mod Terminating

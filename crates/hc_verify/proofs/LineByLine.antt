@@ -1,4 +1,4 @@
--- The loop over the lines of a trace: where it begins, one line more, a line that fails, and the end of a trace without an end line.
+-- The loop over the lines of a trace: one line more, a line that fails, and the end of a trace without an end line.
 use Rattle.std.proofs.Common.{◌≡◌, refl, ap, ◌∙◌, ℕ, ◌+◌, ◌-◌, Bool, true, ◌&&◌, List, [], ◌∷◌, ◌++◌, length, Option, Some, None, inl, inr, arith}
 use Rattle.std.proofs.lemmas.Bool.{and_parts}
 use Rattle.hc_term.specs.declared.task.Task.{Task}
@@ -24,7 +24,7 @@ use Rattle.hc_verify.specs.Stands.{IsAt}
 use Rattle.hc_verify.specs.Following.{IsReached, Followed}
 
 -- what a line names is visible
-named_visible : (sys : System) (e : TraceEvent) (s : Step) → IsStepOf sys e s → is_visible s ≡ true
+pub named_visible : (sys : System) (e : TraceEvent) (s : Step) → IsStepOf sys e s → is_visible s ≡ true
 named_visible sys (event.Delay by) (step.Silent p None) h = absurd h
 named_visible sys (event.Comm channel sender receiver value) (step.Silent p None) h = absurd h
 named_visible sys (event.Log process value) (step.Silent p None) h = absurd h
@@ -40,10 +40,6 @@ visible_behind [] i h v = both (is_visible i.step) true v refl
 visible_behind (j ∷ is) i h v =
     let parts = and_parts (is_visible j.step) (all_visible is) h in
     both (is_visible j.step) (all_visible (is ++ i ∷ [])) parts.0 (visible_behind is i parts.1 v)
-
--- the walk stands for the opening, and all steps are left
-pub at_first : (t : Task) (w : Walk) → IsAt t.system w (opening t) → IsReached t w t.limit (opening t)
-at_first t w at = record { lines = []; visible = refl; steps = 0; follows = (refl, refl); left = omega arith; at = at }
 
 module _ (t : Task) (w : Walk) (room : ℕ) (c : Configuration) (r : IsReached t w room c) where
   -- one line more

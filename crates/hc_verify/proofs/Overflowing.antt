@@ -13,7 +13,7 @@ use Rattle.hc_term.specs.Silent.{Outcome, Idle, Unfit, Did, silent}
 use Rattle.hc_term.specs.Step.{silent_by, silent_of, replaced}
 use Rattle.hc_term.specs.Event.{Progress, progress}
 use Rattle.hc_step.specs.declared.stretch.Stretch.{Stretch}
-use Rattle.hc_order.specs.Demand.{Movers, Strolls, Advances, AreHalted}
+use Rattle.hc_order.specs.Demand.{Strolls, Advances, AreHalted}
 use Rattle.hc_order.specs.Verified.{asked_at_stop}
 use Rattle.hc_order.specs.Laws.{EndsAfterStroll}
 use Rattle.hc_order.proofs.Loop.{stretch_is_stroll}

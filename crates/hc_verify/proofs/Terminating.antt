@@ -35,7 +35,7 @@ ended_at clock s b mark [] = refl
 ended_at clock s b Going (head ∷ rest) = refl
 ended_at clock s b (Arrived left) (head ∷ rest) = refl
 
-ended_shown : (clock : Rational) (qs : List ProcessState) →
+pub ended_shown : (clock : Rational) (qs : List ProcessState) →
     list_all (λ (p : Post). is_ended p.phase) (map (post clock) qs) ≡ list_all (λ (q : ProcessState). is_done q.todo) qs
 ended_shown clock [] = refl
 ended_shown clock (q ∷ qs) = ap₂ (λ a b. a && b) (ended_at clock q.store (bound q) q.mark q.todo) (ended_shown clock qs)

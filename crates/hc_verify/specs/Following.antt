@@ -7,6 +7,8 @@ use Rattle.hc_term.specs.Step.{opening}
 use Rattle.hc_order.specs.Shown.{all_visible}
 use Rattle.hc_order.specs.Demand.{Follows, OnDemand}
 use Rattle.hc_verify.specs.declared.walk.Walk.{Walk}
+use Rattle.hc_trace.specs.declared.traces.TraceLine.{TraceLine}
+use Rattle.hc_verify.specs.Named.{IsItemOf}
 use Rattle.hc_verify.specs.Stands.{IsAt}
 
 -- The walk stands for c, to which moving on demand along some lines leads, and so many steps are left to the limit.
@@ -23,3 +25,8 @@ pub record IsReached (t : Task) (w : Walk) (room : ℕ) (c : Configuration) : Ty
 abbrev pub Followed : Task → Item → ℕ → Configuration → Walk → Option ℕ → Type 0
 Followed t line room c new (Some k) = (k ≤ room) × ((d : Configuration) × Follows t line k c d × IsAt t.system new d)
 Followed t line room c new None = (k : ℕ) (d : Configuration) → Follows t line k c d → k ≤ room → ⊥
+
+-- so it is with the item that a line names; or the line names none that can be followed so
+abbrev pub FollowedLine : Task → TraceLine → ℕ → Configuration → Walk → Option ℕ → Type 0
+FollowedLine t line room c new (Some k) = (i : Item) × IsItemOf t.system line i × Followed t i room c new (Some k)
+FollowedLine t line room c new None = (i : Item) → IsItemOf t.system line i → Followed t i room c new None

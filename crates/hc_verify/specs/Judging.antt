@@ -7,7 +7,9 @@ use Rattle.hc_trace.specs.declared.traces.Trace.{Trace}
 use Rattle.hc_trace.specs.declared.traces.TraceLine.{TraceLine}
 use Rattle.hc_trace.specs.declared.traces.TraceEnd.{TraceEnd}
 use Rattle.hc_order.specs.Shown.{End}
-use Rattle.hc_order.specs.Verified.{IsVerified, IsRefused, IsShown, Verdict, Yes, No}
+use Rattle.hc_order.specs.Verified.{IsVerified, IsRefused, IsShown}
+use Rattle.hc_verify.specs.declared.verdict.Verdict.{Verdict}
+use Rattle.hc_verify.specs.declared.verdict.Verdict.TheVariants.{Yes, No}
 use Rattle.hc_verify.specs.Named.{IsItemOf, IsEndOf}
 
 -- ---- where it is verified
@@ -59,3 +61,8 @@ FailsFrom t before (l ∷ ls) end n =
 abbrev pub JudgesTrace : Task → Trace → Verdict → Type 0
 JudgesTrace t trace (Yes n) = IsVerifiedTrace t trace n
 JudgesTrace t trace (No k) = FailsFrom t [] trace.lines trace.end k
+
+-- where the lines are these items already: the end line, where there is one, ends them, or is the first line that fails
+abbrev pub JudgesEnd : Task → List Item → Option TraceEnd → Verdict → Type 0
+JudgesEnd t lines end (Yes n) = (e : Option End) × IsEnd t.system end e × IsVerified t lines e n
+JudgesEnd t lines end (No k) = FailsFrom t lines [] end k

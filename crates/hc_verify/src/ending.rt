@@ -8,7 +8,7 @@ use crate::following::is_same;
 use crate::walk::Walk;
 use hc_frac::Frac;
 use hc_step::Stretch;
-use hc_term::{Phase, Post, StretchEnd, Task};
+use hc_term::{Phase, Post, Stop, StretchEnd, Task};
 
 /// Whether a process has ended.
 fn has_ended(post: &Post) -> bool
@@ -21,7 +21,7 @@ fn has_ended(post: &Post) -> bool
 }
 
 /// Whether all processes have ended.
-fn are_ended(posts: &[Post]) -> bool
+pub(crate) fn are_ended(posts: &[Post]) -> bool
     ensures { result ≡ list_all (λ p. is_ended p.phase) posts.now }
 {
     for post in posts {
@@ -47,7 +47,7 @@ impl Walk {
     ghost use Rattle.hc_term.specs.declared.run.Stop.TheVariants.{Terminated, Overflow};
     ghost use Rattle.hc_term.specs.declared.model.Configuration.{Configuration};
     ghost use Rattle.hc_verify.specs.Following.{IsReached};
-    ghost use Rattle.hc_verify.specs.Ending.{Reaches};
+    ghost use Rattle.hc_verify.specs.Ending.{Reaches, ReachesEnd};
 
     /// Follows the end line by which all processes have ended at this clock, where so many steps are left: all take their
     /// steps. The answer is how many that were.
@@ -87,5 +87,22 @@ impl Walk {
             return None;
         }
         Some(moved)
+    }
+
+    /// Follows an end line at this clock, where so many steps are left. The answer is how many steps were taken for it.
+    pub(crate) fn end(&mut self, task: &Task, stop: Stop, at: Frac, room: u32) -> Option<u32>
+        requires reached { (c : Configuration) × IsReached task.now self.old room c }
+        ensures { (c : Configuration) → IsReached task.now self.old room c → ReachesEnd task.now stop at room c result }
+    {
+        match stop {
+            Stop::Terminated => self.terminate(task, at, room),
+            Stop::Deadlock => self.stand_still(task, stop, at, room),
+            Stop::Horizon => self.stand_still(task, stop, at, room),
+            Stop::Limit => self.limit(task, at, room),
+            Stop::Overflow { process } => match process {
+                None => self.stand_still(task, stop, at, room),
+                Some(process) => self.overflow(task, at, process, room),
+            },
+        }
     }
 }

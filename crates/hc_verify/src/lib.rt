@@ -4,9 +4,15 @@
 mod ending;
 mod following;
 mod halting;
+mod judge;
 mod meeting;
 mod member;
 mod members;
 mod names;
+mod stops;
 mod timing;
+mod verdict;
 mod walk;
+
+pub use verdict::Verdict;
+pub use judge::verify;

@@ -1,13 +1,13 @@
-//! What the lines of a trace name: steps and stops, by the names of a system.
+//! What the lines of a trace name: processes, channels and stops, by the names of a system.
 
 ghost use Rattle.std.specs.Prelude.{◌≡◌, ◌≤◌, ◌↔◌, None, length, IsTrue};
 ghost use Rattle.hc_limits.specs.Limits.{most_processes, most_channels};
-ghost use Rattle.hc_verify.specs.Named.{HasName, IsEndNamed, IsChannelNamed, IsStepOf, IsStopOf, IsItemOf, IsThe};
+ghost use Rattle.hc_verify.specs.Named.{HasName, IsEndNamed, IsChannelNamed, IsStopOf, IsThe};
 ghost use Rattle.hc_verify.specs.Places.{process_from, name_from, is_both};
 
 use hc_frac::Name;
-use hc_term::{Item, Process, Step, Stop, System, channel_ends};
-use hc_trace::{EndKind, TraceEvent, TraceLine};
+use hc_term::{Process, Stop, System, channel_ends};
+use hc_trace::EndKind;
 
 /// The number of the first process of this name.
 fn find_process(processes: &[Process], name: &Name) -> Option<u32>
@@ -40,7 +40,7 @@ fn find_name(names: &[Name], name: &Name) -> Option<u32>
 }
 
 /// The process of this name.
-fn process_named(system: &System, name: &Name) -> Option<u32>
+pub(crate) fn process_named(system: &System, name: &Name) -> Option<u32>
     ensures { IsThe (λ p. HasName system.now p name.now) result }
 {
     find_process(system.processes.as_slice(), name)
@@ -70,7 +70,7 @@ fn is_end_named(system: &System, end: Option<u32>, name: &Option<Name>) -> bool
 }
 
 /// The channel of this name, if its ends have the given names.
-fn channel_named(
+pub(crate) fn channel_named(
     system: &System,
     channel: &Name,
     sender: &Option<Name>,
@@ -83,42 +83,6 @@ fn channel_named(
     let sent = is_end_named(system, ends.sender, sender);
     let received = is_end_named(system, ends.receiver, receiver);
     if sent & received { Some(number) } else { None }
-}
-
-/// The step that the event of a line names.
-fn step_of(system: &System, event: &TraceEvent) -> Option<Step>
-    ensures { IsThe (IsStepOf system.now event.now) result }
-{
-    match event {
-        TraceEvent::Delay { by } => Some(Step::Delay { by: *by }),
-        TraceEvent::Comm {
-            channel,
-            sender,
-            receiver,
-            value,
-        } => {
-            let channel = channel_named(system, channel, sender, receiver)?;
-            Some(Step::Comm {
-                channel,
-                value: *value,
-            })
-        }
-        TraceEvent::Log { process, value } => {
-            let process = process_named(system, process)?;
-            Some(Step::Silent {
-                process,
-                logged: Some(*value),
-            })
-        }
-    }
-}
-
-/// The item that a line names.
-pub(crate) fn item_of(system: &System, line: &TraceLine) -> Option<Item>
-    ensures { IsThe (IsItemOf system.now line.now) result }
-{
-    let step = step_of(system, &line.event)?;
-    Some(Item { at: line.at, step })
 }
 
 /// The stop that an end line names.

@@ -1,0 +1,84 @@
+-- A line is followed where the item that it names is; it names one at most.
+use Rattle.std.proofs.Common.{◌≡◌, refl, sym, ap, subst, ◌∙◌, ℕ, List, Option, Some, None}
+use Rattle.hc_rational.specs.Words.{Rational}
+use Rattle.hc_term.specs.declared.system.System.{System}
+use Rattle.hc_term.specs.declared.task.Task.{Task}
+use Rattle.hc_term.specs.declared.run.Step.{Step}
+use Rattle.hc_term.specs.declared.run.Step.TheVariants as step
+use Rattle.hc_term.specs.declared.run.Item.{Item}
+use Rattle.hc_term.specs.declared.model.Configuration.{Configuration}
+use Rattle.hc_trace.specs.declared.traces.TraceLine.{TraceLine}
+use Rattle.hc_trace.specs.declared.traces.TraceEvent.{TraceEvent}
+use Rattle.hc_trace.specs.declared.traces.TraceEvent.TheVariants as event
+use Rattle.hc_verify.specs.declared.walk.Walk.{Walk}
+use Rattle.hc_verify.specs.Named.{HasName, IsChannelNamed, IsStepOf, IsItemOf, IsThe}
+use Rattle.hc_verify.specs.Following.{Followed, FollowedLine}
+
+-- ---- the one step that a line names
+
+module _ (sys : System) where
+  only_delay : (by : Rational) (s : Step) → IsStepOf sys (event.Delay by) s → s ≡ step.Delay by
+  only_delay by (step.Delay d) h = ap step.Delay (sym h)
+  only_delay by (step.Comm c v) h = absurd h
+  only_delay by (step.Silent p None) h = absurd h
+  only_delay by (step.Silent p (Some v)) h = absurd h
+
+  module _ (channel : List ℕ) (sender receiver : Option (List ℕ)) (value : Rational) (o : Option ℕ)
+      (the : IsThe (IsChannelNamed sys channel sender receiver) o) where
+    only_comm : (s : Step) → IsStepOf sys (event.Comm channel sender receiver value) s → (c : ℕ) × (o ≡ Some c) × (s ≡ step.Comm c value)
+    only_comm (step.Comm c v) h = (c, (the c).1 h.0, ap (step.Comm c) (sym h.1))
+    only_comm (step.Delay d) h = absurd h
+    only_comm (step.Silent p None) h = absurd h
+    only_comm (step.Silent p (Some v)) h = absurd h
+
+  module _ (process : List ℕ) (value : Rational) (o : Option ℕ) (the : IsThe (λ p. HasName sys p process) o) where
+    only_log : (s : Step) → IsStepOf sys (event.Log process value) s → (p : ℕ) × (o ≡ Some p) × (s ≡ step.Silent p (Some value))
+    only_log (step.Silent p (Some v)) h = (p, (the p).1 h.0, ap (λ x. step.Silent p (Some x)) (sym h.1))
+    only_log (step.Silent p None) h = absurd h
+    only_log (step.Delay d) h = absurd h
+    only_log (step.Comm c v) h = absurd h
+
+-- ---- lines
+
+same_item : (at at' : Rational) (s s' : Step) → at ≡ at' → s ≡ s' →
+    ◌≡◌ {A = Item} (record { at = at; step = s }) (record { at = at'; step = s' })
+same_item at at' s s' h k = cc
+
+module _ (t : Task) (line : TraceLine) (room : ℕ) (c : Configuration) (new : Walk) where
+  -- where a step is the only one that the line names, the line is followed as that step is
+  by_step : (s : Step) → IsStepOf t.system line.event s → ((u : Step) → IsStepOf t.system line.event u → u ≡ s) → (o : Option ℕ) →
+      Followed t (record { at = line.at; step = s }) room c new o → FollowedLine t line room c new o
+  by_step s is only (Some k) f = (record { at = line.at; step = s }, record { at = refl; step = is }, f)
+  by_step s is only None f = λ i named.
+      subst (λ (x : Item). Followed t x room c new None) (same_item line.at i.at s i.step named.at (sym (only i.step named.step))) f
+
+  pub delay_line : (by : Rational) → line.event ≡ event.Delay by → (o : Option ℕ) →
+      Followed t (record { at = line.at; step = step.Delay by }) room c new o → FollowedLine t line room c new o
+  delay_line by e o f =
+      by_step (step.Delay by) (subst (λ (x : TraceEvent). IsStepOf t.system x (step.Delay by)) (sym e) refl)
+      (λ u is. only_delay t.system by u (subst (λ (x : TraceEvent). IsStepOf t.system x u) e is)) o f
+
+  module _ (channel : List ℕ) (sender receiver : Option (List ℕ)) (value : Rational)
+      (e : line.event ≡ event.Comm channel sender receiver value) where
+    pub comm_line : (n : ℕ) → IsThe (IsChannelNamed t.system channel sender receiver) (Some n) → (o : Option ℕ) →
+        Followed t (record { at = line.at; step = step.Comm n value }) room c new o → FollowedLine t line room c new o
+    comm_line n the o f =
+        by_step (step.Comm n value) (subst (λ (x : TraceEvent). IsStepOf t.system x (step.Comm n value)) (sym e) ((the n).0 refl, refl))
+        (λ u is. only u (subst (λ (x : TraceEvent). IsStepOf t.system x u) e is)) o f where
+          only : (u : Step) → IsStepOf t.system (event.Comm channel sender receiver value) u → u ≡ step.Comm n value
+          only u is =
+              let one = only_comm t.system channel sender receiver value (Some n) the u is in
+              let same : n ≡ one.0 = cc in
+              one.2 ∙ ap (λ (x : ℕ). step.Comm x value) (sym same)
+
+  module _ (process : List ℕ) (value : Rational) (e : line.event ≡ event.Log process value) where
+    pub log_line : (n : ℕ) → IsThe (λ p. HasName t.system p process) (Some n) → (o : Option ℕ) →
+        Followed t (record { at = line.at; step = step.Silent n (Some value) }) room c new o → FollowedLine t line room c new o
+    log_line n the o f =
+        by_step (step.Silent n (Some value)) (subst (λ (x : TraceEvent). IsStepOf t.system x (step.Silent n (Some value))) (sym e) ((the n).0 refl, refl))
+        (λ u is. only u (subst (λ (x : TraceEvent). IsStepOf t.system x u) e is)) o f where
+          only : (u : Step) → IsStepOf t.system (event.Log process value) u → u ≡ step.Silent n (Some value)
+          only u is =
+              let one = only_log t.system process value (Some n) the u is in
+              let same : n ≡ one.0 = cc in
+              one.2 ∙ ap (λ (x : ℕ). step.Silent x (Some value)) (sym same)
