@@ -9,7 +9,7 @@ use Rattle.hc_term.proofs.Places.{get-set_other}
 use Rattle.hc_verify.specs.declared.walk.Walk.{Walk}
 use Rattle.hc_verify.specs.Stands.{IsAt}
 use Rattle.hc_verify.specs.Halting.{Halts}
-use Rattle.hc_verify.specs.Communicating.{HaveHalted, BothHalt}
+use Rattle.hc_verify.specs.Communicating.{BothHalt}
 use Rattle.hc_runs.proofs.Basics.{length-set}
 use Rattle.hc_verify.proofs.Logging.{is_there}
 use Rattle.hc_verify.proofs.Stilling.{longest, all_shown}

@@ -1,7 +1,6 @@
 -- No step changes the number of processes.
-use Rattle.std.proofs.Common.{◌≡◌, refl, ap, subst, sym, ◌∙◌, ℕ, zero, suc, List, [], ◌∷◌, length}
+use Rattle.std.proofs.Common.{◌≡◌, refl, ap, ◌∙◌, ℕ, zero, suc, List, [], ◌∷◌, length}
 use Rattle.std.proofs.lemmas.List.{length-map}
-use Rattle.hc_rational.specs.Words.{Rational}
 use Rattle.hc_term.specs.declared.task.Task.{Task}
 use Rattle.hc_term.specs.declared.run.Step.{Step}
 use Rattle.hc_term.specs.declared.run.Step.TheVariants.{Silent, Comm, Delay}

@@ -20,7 +20,6 @@ use Rattle.hc_order.proofs.Verifying.{verified_on_demand}
 use Rattle.hc_verify.specs.declared.walk.Walk.{Walk}
 use Rattle.hc_verify.specs.Named.{IsStepOf, IsItemOf}
 use Rattle.hc_verify.specs.Judging.{FailsFrom}
-use Rattle.hc_verify.specs.Stands.{IsAt}
 use Rattle.hc_verify.specs.Following.{IsReached, Followed}
 
 -- what a line names is visible

@@ -11,7 +11,7 @@ use Rattle.hc_trace.specs.declared.traces.TraceLine.{TraceLine}
 use Rattle.hc_trace.specs.declared.traces.TraceEvent.{TraceEvent}
 use Rattle.hc_trace.specs.declared.traces.TraceEvent.TheVariants as event
 use Rattle.hc_verify.specs.declared.walk.Walk.{Walk}
-use Rattle.hc_verify.specs.Named.{HasName, IsChannelNamed, IsStepOf, IsItemOf, IsThe}
+use Rattle.hc_verify.specs.Named.{HasName, IsChannelNamed, IsStepOf, IsThe}
 use Rattle.hc_verify.specs.Following.{Followed, FollowedLine}
 
 -- ---- the one step that a line names

@@ -1,5 +1,5 @@
 -- The line of a communication: both ends of the channel take their steps, and then they meet; there is no other way to follow it.
-use Rattle.std.proofs.Common.{◌≡◌, ◌≢◌, refl, sym, ap, subst, subst₂, ◌∙◌, ℕ, zero, suc, ◌+◌, ◌≤◌, ◌<◌, Bool, true, false, ◌||◌, if◌then◌else◌, List, [], ◌∷◌, ◌++◌, map, length, slice_get, slice_set, Option, Some, None, ◌⊎◌, inl, inr, count_by, arith}
+use Rattle.std.proofs.Common.{◌≡◌, ◌≢◌, refl, sym, ap, subst, ◌∙◌, ℕ, zero, suc, ◌+◌, ◌≤◌, ◌<◌, Bool, true, false, if◌then◌else◌, List, [], ◌∷◌, length, slice_get, slice_set, Option, Some, None, ◌⊎◌, inl, inr, count_by, arith}
 use Rattle.hc_rational.specs.Words.{Rational}
 use Rattle.std.proofs.lemmas.Bool.{or_cases, and_parts, or_left, or_right, leb-true, not-true, true≢false}
 use Rattle.hc_term.specs.declared.system.Process.{Process}
@@ -14,8 +14,8 @@ use Rattle.hc_term.specs.declared.model.Configuration.{Configuration}
 use Rattle.hc_term.specs.Offers.{post}
 use Rattle.hc_term.specs.Rules.{is_user}
 use Rattle.hc_term.specs.Ends.{user_from, ends_of, is_joining}
-use Rattle.hc_term.specs.Silent.{Outcome, Idle, Did, silent}
-use Rattle.hc_term.specs.Step.{opening, posts, silent_by, silent_of, replaced, met, SendsAt, ReceivesAt, Meets, StepTo, Leads}
+use Rattle.hc_term.specs.Silent.{Idle, Did, silent}
+use Rattle.hc_term.specs.Step.{opening, silent_by, silent_of, replaced, met, SendsAt, ReceivesAt, Meets, StepTo, Leads}
 use Rattle.hc_term.proofs.Offering.{sender-idle, receiver-idle}
 use Rattle.hc_term.proofs.Places.{get-set_other, get-set_same}
 use Rattle.hc_term.proofs.Reached.{meetings_join_ends}

@@ -1,4 +1,4 @@
-use Rattle.std.proofs.Common.{◌≡◌, ◌≤◌, ◌+◌, List, [], length, refl, subst, arith}
+use Rattle.std.proofs.Common.{◌≡◌, ◌+◌, List, [], length, refl, subst, arith}
 use Rattle.hc_trace.specs.declared.traces.TraceLine.{TraceLine}
 use Rattle.hc_verify.specs.Judging.{FailsFrom}
 use Rattle.hc_verify.proofs.Along.{at_start, one_line_more, line_fails, lines_within, judged}

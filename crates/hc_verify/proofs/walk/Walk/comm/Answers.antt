@@ -1,4 +1,4 @@
-use Rattle.std.proofs.Common.{◌≡◌, ◌≤◌, ◌<◌, refl, sym, subst, ℕ, Option, arith}
+use Rattle.std.proofs.Common.{◌≤◌, ◌<◌, refl, sym, subst, ℕ, Option, arith}
 use Rattle.hc_term.specs.declared.run.Step.TheVariants.{Comm}
 use Rattle.hc_verify.specs.Following.{Followed}
 use Rattle.hc_verify.proofs.MeetingLine.{differ, no_meeting, sender_below, receiver_below, sender_here, receiver_here, cannot_halt, members_after, too_many, not_met, they_meet}

@@ -1,6 +1,6 @@
-use Rattle.std.proofs.Common.{◌≡◌, ◌≤◌, ◌<◌, sym, subst, ℕ, Option, arith}
+use Rattle.std.proofs.Common.{sym, subst, ℕ, Option, arith}
 use Rattle.hc_verify.specs.Communicating.{BothHalt}
-use Rattle.hc_verify.proofs.BothHalting.{sender_cannot, receiver_cannot, both_halt, still_there, within_room, members_after, shown_after, at_after}
+use Rattle.hc_verify.proofs.BothHalting.{receiver_cannot, both_halt, still_there, within_room, members_after, shown_after, at_after}
 use Rattle.hc_verify.proofs.Logging.{is_there}
 use Rattle.hc_verify.proofs.walk.Walk.halt_both.Goals as goal
 

@@ -1,4 +1,4 @@
-use Rattle.std.proofs.Common.{◌≡◌, ◌≤◌, refl, sym, ◌∙◌, ◌-◌, ◌+◌, arith}
+use Rattle.std.proofs.Common.{arith}
 use Rattle.hc_verify.proofs.Along.{end_line_within, without_end, at_end, end_fails}
 use Rattle.hc_verify.proofs.walk.Walk.judge_end.Goals as goal
 
