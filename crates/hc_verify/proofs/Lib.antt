@@ -11,6 +11,7 @@ pub mod Logging
 pub mod MeetingLine
 pub mod Moves
 pub mod Named
+pub mod OneName
 pub mod Opened
 pub mod Overflowing
 pub mod Passed
@@ -25,3 +26,4 @@ pub mod Strolled
 pub mod Terminating
 pub mod TimePasses
 pub mod Told
+pub mod Verdicts

@@ -133,7 +133,7 @@ end_is sys found end name n r e the is =
 -- ---- channels
 
 module _ (sys : System) (channel : Word) (sender receiver : Option Word) (cs : List Word) (listed : cs ≡ sys.channels) where
-  the_channel : (o : Option ℕ) → o ≡ name_from channel 0 cs → (k : ℕ) → (o ≡ Some k) ↔ (slice_get sys.channels k ≡ Some channel)
+  pub the_channel : (o : Option ℕ) → o ≡ name_from channel 0 cs → (k : ℕ) → (o ≡ Some k) ↔ (slice_get sys.channels k ≡ Some channel)
   the_channel o first k =
       let t = the_name channel sys.channels (apart_in sys).1 k in
       let e : o ≡ name_from channel 0 sys.channels = first ∙ ap (name_from channel 0) listed in

@@ -3,6 +3,7 @@ pub mod Ending
 pub mod Following
 pub mod Halting
 pub mod Judging
+pub mod Laws
 pub mod Named
 pub mod Places
 pub mod Stands

@@ -5,6 +5,7 @@ mod ending;
 mod following;
 mod halting;
 mod judge;
+mod laws;
 mod meeting;
 mod member;
 mod members;
@@ -14,5 +15,6 @@ mod timing;
 mod verdict;
 mod walk;
 
-pub use verdict::Verdict;
 pub use judge::verify;
+pub use laws::verdict_laws;
+pub use verdict::Verdict;
