@@ -67,9 +67,11 @@ module _ (t : Task) (w : Walk) (room : ℕ) (c : Configuration) (r : IsReached t
       JudgesEnd t r.lines end (Yes (t.limit - room + m))
   at_end end line m e h =
       let last : End = record { at = line.at; stop = h.0 } in
-      subst (λ (x : Option TraceEnd). JudgesEnd t r.lines x (Yes (t.limit - room + m))) (sym e)
-      (Some last, record { at = refl; stop = h.1 },
-      subst (λ (n : ℕ). IsVerified t r.lines (Some last) (n + m)) taken (verified_by_end t w room c r last m h.2))
+      subst (λ (x : Option TraceEnd). JudgesEnd t r.lines x (Yes (t.limit - room + m))) (sym e) (
+        Some last,
+        record { at = refl; stop = h.1 },
+        subst (λ (n : ℕ). IsVerified t r.lines (Some last) (n + m)) taken (verified_by_end t w room c r last m h.2),
+      )
 
   pub end_fails : (end : Option TraceEnd) (line : TraceEnd) (number : ℕ) → end ≡ Some line → number ≡ length r.lines + 2 →
       ReachesEndLine t line room c None → JudgesEnd t r.lines end (No number)

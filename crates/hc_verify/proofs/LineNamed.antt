@@ -17,26 +17,23 @@ use Rattle.hc_verify.specs.Following.{Followed, FollowedLine}
 -- ---- the one step that a line names
 
 module _ (sys : System) where
-  only_delay : (by : Rational) (s : Step) → IsStepOf sys (event.Delay by) s → s ≡ step.Delay by
+  pub only_delay : (by : Rational) (s : Step) → IsStepOf sys (event.Delay by) s → s ≡ step.Delay by
   only_delay by (step.Delay d) h = ap step.Delay (sym h)
-  only_delay by (step.Comm c v) h = absurd h
-  only_delay by (step.Silent p None) h = absurd h
-  only_delay by (step.Silent p (Some v)) h = absurd h
+  only_delay by s h = absurd h
 
-  module _ (channel : List ℕ) (sender receiver : Option (List ℕ)) (value : Rational) (o : Option ℕ)
-      (the : IsThe (IsChannelNamed sys channel sender receiver) o) where
-    only_comm : (s : Step) → IsStepOf sys (event.Comm channel sender receiver value) s → (c : ℕ) × (o ≡ Some c) × (s ≡ step.Comm c value)
-    only_comm (step.Comm c v) h = (c, (the c).1 h.0, ap (step.Comm c) (sym h.1))
-    only_comm (step.Delay d) h = absurd h
-    only_comm (step.Silent p None) h = absurd h
-    only_comm (step.Silent p (Some v)) h = absurd h
+  pub only_comm : (channel : List ℕ) (sender receiver : Option (List ℕ)) (value : Rational) (s : Step) →
+      IsStepOf sys (event.Comm channel sender receiver value) s →
+      (c : ℕ) × IsChannelNamed sys channel sender receiver c × (s ≡ step.Comm c value)
+  only_comm channel sender receiver value (step.Comm c v) h = (c, h.0, ap (step.Comm c) (sym h.1))
+  only_comm channel sender receiver value s h = absurd h
 
-  module _ (process : List ℕ) (value : Rational) (o : Option ℕ) (the : IsThe (λ p. HasName sys p process) o) where
-    only_log : (s : Step) → IsStepOf sys (event.Log process value) s → (p : ℕ) × (o ≡ Some p) × (s ≡ step.Silent p (Some value))
-    only_log (step.Silent p (Some v)) h = (p, (the p).1 h.0, ap (λ x. step.Silent p (Some x)) (sym h.1))
-    only_log (step.Silent p None) h = absurd h
-    only_log (step.Delay d) h = absurd h
-    only_log (step.Comm c v) h = absurd h
+  pub only_log : (process : List ℕ) (value : Rational) (s : Step) → IsStepOf sys (event.Log process value) s →
+      (p : ℕ) × HasName sys p process × (s ≡ step.Silent p (Some value))
+  only_log process value (step.Silent p (Some v)) h = (p, h.0, ap (λ (x : Rational). step.Silent p (Some x)) (sym h.1))
+  only_log process value s h = absurd h
+
+pub some_is : (p q : ℕ) → Some p ≡ Some q → p ≡ q
+some_is p q e = cc
 
 -- ---- lines
 
@@ -67,9 +64,8 @@ module _ (t : Task) (line : TraceLine) (room : ℕ) (c : Configuration) (new : W
         (λ u is. only u (subst (λ (x : TraceEvent). IsStepOf t.system x u) e is)) o f where
           only : (u : Step) → IsStepOf t.system (event.Comm channel sender receiver value) u → u ≡ step.Comm n value
           only u is =
-              let one = only_comm t.system channel sender receiver value (Some n) the u is in
-              let same : n ≡ one.0 = cc in
-              one.2 ∙ ap (λ (x : ℕ). step.Comm x value) (sym same)
+              let one = only_comm t.system channel sender receiver value u is in
+              one.2 ∙ ap (λ (x : ℕ). step.Comm x value) (sym (some_is n one.0 ((the one.0).1 one.1)))
 
   module _ (process : List ℕ) (value : Rational) (e : line.event ≡ event.Log process value) where
     pub log_line : (n : ℕ) → IsThe (λ p. HasName t.system p process) (Some n) → (o : Option ℕ) →
@@ -79,6 +75,5 @@ module _ (t : Task) (line : TraceLine) (room : ℕ) (c : Configuration) (new : W
         (λ u is. only u (subst (λ (x : TraceEvent). IsStepOf t.system x u) e is)) o f where
           only : (u : Step) → IsStepOf t.system (event.Log process value) u → u ≡ step.Silent n (Some value)
           only u is =
-              let one = only_log t.system process value (Some n) the u is in
-              let same : n ≡ one.0 = cc in
-              one.2 ∙ ap (λ (x : ℕ). step.Silent x (Some value)) (sym same)
+              let one = only_log t.system process value u is in
+              one.2 ∙ ap (λ (x : ℕ). step.Silent x (Some value)) (sym (some_is n one.0 ((the one.0).1 one.1)))

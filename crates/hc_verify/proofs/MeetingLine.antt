@@ -229,6 +229,11 @@ module _ (t : Task) (channel : ℕ) (value : Rational) (room : ℕ) (w : Walk) (
         subst (λ (k : ℕ). Advances movers t k c last) (sym h.counted)
         (advances_add movers t h.sending h.receiving c mid last first second)
 
+    needed : (at : Rational) (n : ℕ) → HaveHalted t m c.clock q r n → (k : ℕ) (new : Configuration) → Follows t (line_at at) k c new → n < k
+    needed at n h k new f =
+        moves_are_needed t reached.lines (line_at at) reached.steps n k c (replaced (replaced c m.sender h.sender) m.receiver h.receiver)
+        new refl reached.follows (both_advance n h) f
+
     -- the strolls of both to where the step is taken
     strolled : (k : ℕ) (d : Configuration) → Advances movers t k c d → (p : ℕ) (x y : ProcessState) → slice_get c.processes p ≡ Some x →
         slice_get d.processes p ≡ Some y → (n : ℕ) × Strolls t c.clock p n x y
@@ -236,6 +241,20 @@ module _ (t : Task) (channel : ℕ) (value : Rational) (room : ℕ) (w : Walk) (
         let s = stroll_in t c.clock 0 p k c.processes d.processes x y (all_of t c.clock movers 0 k c.processes d.processes advances.stroll) from to in
         let here : 0 + p ≡ p = omega arith in
         (s.0, subst (λ (i : ℕ). Strolls t c.clock i s.0 x y) here s.1)
+
+    have_halted : (n k : ℕ) (x y : ProcessState) → Strolls t c.clock m.sender n q x → Strolls t c.clock m.receiver k r y →
+        HasNoStep t c.clock m.sender x → HasNoStep t c.clock m.receiver y → HaveHalted t m c.clock q r (n + k)
+    have_halted n k x y one two one_still two_still = record {
+      sender = x;
+      receiver = y;
+      sending = n;
+      receiving = k;
+      counted = refl;
+      sender_strolls = one;
+      receiver_strolls = two;
+      sender_still = one_still;
+      receiver_still = two_still;
+    }
 
     pub cannot_halt : (at : Rational) (mid new : Walk) → BothHalt t m room c q r mid None → Followed t (line_at at) room c new None
     cannot_halt at mid new h k d f le =
@@ -245,19 +264,10 @@ module _ (t : Task) (channel : ℕ) (value : Rational) (room : ℕ) (w : Walk) (
         let y = is_there f.mid.processes m.receiver (omega (arith, receiver_below, reached.at.members.counted, same)) in
         let one = strolled f.moves f.mid f.advances m.sender q x.0 sender_here.1 x.1 in
         let two = strolled f.moves f.mid f.advances m.receiver r y.0 receiver_here.1 y.1 in
-        let all : HaveHalted t m c.clock q r (one.0 + two.0) = record {
-          sender = x.0;
-          receiver = y.0;
-          sending = one.0;
-          receiving = two.0;
-          counted = refl;
-          sender_strolls = one.1;
-          receiver_strolls = two.1;
-          sender_still = idle_still t f.mid c.clock m.sender x.0 f.advances.same_clock x.1 (sender-idle t f.mid m meets);
-          receiver_still = idle_still t f.mid c.clock m.receiver y.0 f.advances.same_clock y.1 (receiver-idle t f.mid m meets);
-        } in
-        let more = moves_are_needed t reached.lines (line_at at) reached.steps (one.0 + two.0) k c _ d refl reached.follows
-        (both_advance (one.0 + two.0) all) f in
+        let one_still = idle_still t f.mid c.clock m.sender x.0 f.advances.same_clock x.1 (sender-idle t f.mid m meets) in
+        let two_still = idle_still t f.mid c.clock m.receiver y.0 f.advances.same_clock y.1 (receiver-idle t f.mid m meets) in
+        let all = have_halted one.0 two.0 x.0 y.0 one.1 two.1 one_still two_still in
+        let more = needed at (one.0 + two.0) all k d f in
         h (one.0 + two.0) all (omega (arith, more, le))
 
     module _ (n : ℕ) (h : HaveHalted t m c.clock q r n) where

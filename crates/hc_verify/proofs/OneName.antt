@@ -1,5 +1,5 @@
 -- What a line or an end line names is one item or end at most.
-use Rattle.std.proofs.Common.{◌≡◌, refl, sym, ap, subst, ◌∙◌, ℕ, List, [], ◌∷◌, Option, Some, None}
+use Rattle.std.proofs.Common.{◌≡◌, refl, sym, ap, ◌∙◌, ℕ, List, [], ◌∷◌, Option, Some, None}
 use Rattle.hc_rational.specs.Words.{Rational}
 use Rattle.hc_term.specs.declared.system.System.{System}
 use Rattle.hc_term.specs.declared.run.Step.{Step}
@@ -14,61 +14,34 @@ use Rattle.hc_trace.specs.declared.traces.TraceEnd.{TraceEnd}
 use Rattle.hc_trace.specs.declared.traces.EndKind.{EndKind}
 use Rattle.hc_trace.specs.declared.traces.EndKind.TheVariants as kind
 use Rattle.hc_order.specs.Shown.{End}
-use Rattle.hc_verify.specs.Named.{HasName, IsChannelNamed, IsStepOf, IsItemOf, IsStopOf, IsEndOf}
+use Rattle.hc_verify.specs.Named.{HasName, IsChannelNamed, IsStepOf, IsItemOf, IsStopOf}
 use Rattle.hc_verify.specs.Places.{process_from, name_from}
 use Rattle.hc_verify.specs.Judging.{AreItems, IsEnd}
 use Rattle.hc_verify.proofs.Named.{process_is, the_channel}
+use Rattle.hc_verify.proofs.LineNamed.{only_delay, only_comm, only_log, some_is}
 
 module _ (sys : System) where
   one_process : (name : List ℕ) (p q : ℕ) → HasName sys p name → HasName sys q name → p ≡ q
   one_process name p q h k =
-      let o = process_from name 0 sys.processes in
-      let one = (process_is sys sys.processes name o refl refl p).1 h in
-      let two = (process_is sys sys.processes name o refl refl q).1 k in
-      some_is p q (sym one ∙ two)
-    where
-      some_is : (p q : ℕ) → Some p ≡ Some q → p ≡ q
-      some_is p q e = cc
+      let first = process_is sys sys.processes name (process_from name 0 sys.processes) refl refl in
+      some_is p q (sym ((first p).1 h) ∙ (first q).1 k)
 
   one_channel : (channel : List ℕ) (sender receiver : Option (List ℕ)) (c d : ℕ) → IsChannelNamed sys channel sender receiver c →
       IsChannelNamed sys channel sender receiver d → c ≡ d
   one_channel channel sender receiver c d h k =
-      let o = name_from channel 0 sys.channels in
-      let one = (the_channel sys channel sender receiver sys.channels refl o refl c).1 h.channel_named in
-      let two = (the_channel sys channel sender receiver sys.channels refl o refl d).1 k.channel_named in
-      some_is c d (sym one ∙ two)
-    where
-      some_is : (p q : ℕ) → Some p ≡ Some q → p ≡ q
-      some_is p q e = cc
+      let first = the_channel sys channel sender receiver sys.channels refl (name_from channel 0 sys.channels) refl in
+      some_is c d (sym ((first c).1 h.channel_named) ∙ (first d).1 k.channel_named)
 
   one_step : (e : TraceEvent) (s u : Step) → IsStepOf sys e s → IsStepOf sys e u → s ≡ u
-  one_step (event.Delay by) (step.Delay d) (step.Delay f) h k = ap step.Delay (sym h ∙ k)
-  one_step (event.Delay by) (step.Delay d) (step.Comm c v) h k = absurd k
-  one_step (event.Delay by) (step.Delay d) (step.Silent p None) h k = absurd k
-  one_step (event.Delay by) (step.Delay d) (step.Silent p (Some v)) h k = absurd k
-  one_step (event.Delay by) (step.Comm c v) u h k = absurd h
-  one_step (event.Delay by) (step.Silent p None) u h k = absurd h
-  one_step (event.Delay by) (step.Silent p (Some v)) u h k = absurd h
-  one_step (event.Comm channel sender receiver value) (step.Comm c v) (step.Comm d w) h k =
-      same (one_channel channel sender receiver c d h.0 k.0) (sym h.1 ∙ k.1) where
-        same : c ≡ d → v ≡ w → step.Comm c v ≡ step.Comm d w
-        same e f = cc
-  one_step (event.Comm channel sender receiver value) (step.Comm c v) (step.Delay d) h k = absurd k
-  one_step (event.Comm channel sender receiver value) (step.Comm c v) (step.Silent p None) h k = absurd k
-  one_step (event.Comm channel sender receiver value) (step.Comm c v) (step.Silent p (Some w)) h k = absurd k
-  one_step (event.Comm channel sender receiver value) (step.Delay d) u h k = absurd h
-  one_step (event.Comm channel sender receiver value) (step.Silent p None) u h k = absurd h
-  one_step (event.Comm channel sender receiver value) (step.Silent p (Some v)) u h k = absurd h
-  one_step (event.Log process value) (step.Silent p (Some v)) (step.Silent q (Some w)) h k =
-      same (one_process process p q h.0 k.0) (sym h.1 ∙ k.1) where
-        same : p ≡ q → v ≡ w → step.Silent p (Some v) ≡ step.Silent q (Some w)
-        same e f = cc
-  one_step (event.Log process value) (step.Silent p (Some v)) (step.Silent q None) h k = absurd k
-  one_step (event.Log process value) (step.Silent p (Some v)) (step.Delay d) h k = absurd k
-  one_step (event.Log process value) (step.Silent p (Some v)) (step.Comm c w) h k = absurd k
-  one_step (event.Log process value) (step.Silent p None) u h k = absurd h
-  one_step (event.Log process value) (step.Delay d) u h k = absurd h
-  one_step (event.Log process value) (step.Comm c w) u h k = absurd h
+  one_step (event.Delay by) s u h k = only_delay sys by s h ∙ sym (only_delay sys by u k)
+  one_step (event.Comm channel sender receiver value) s u h k =
+      let a = only_comm sys channel sender receiver value s h in
+      let b = only_comm sys channel sender receiver value u k in
+      a.2 ∙ ap (λ (c : ℕ). step.Comm c value) (one_channel channel sender receiver a.0 b.0 a.1 b.1) ∙ sym b.2
+  one_step (event.Log process value) s u h k =
+      let a = only_log sys process value s h in
+      let b = only_log sys process value u k in
+      a.2 ∙ ap (λ (p : ℕ). step.Silent p (Some value)) (one_process process a.0 b.0 a.1 b.1) ∙ sym b.2
 
   same_item : (at at' : Rational) (s u : Step) → at ≡ at' → s ≡ u →
       ◌≡◌ {A = Item} (record { at = at; step = s }) (record { at = at'; step = u })

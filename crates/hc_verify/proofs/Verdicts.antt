@@ -1,6 +1,5 @@
 -- A trace has one verdict at most, and it is yes exactly where the trace is one of a behaviour.
-use Rattle.std.proofs.Common.{◌≡◌, refl, sym, ap, ◌∙◌, subst, subst₂, ℕ, ◌+◌, ◌≤◌, List, [], ◌∷◌, ◌++◌, Option, Some, None, arith, inl, inr}
-use Rattle.hc_term.specs.declared.system.System.{System}
+use Rattle.std.proofs.Common.{◌≡◌, refl, sym, ap, ◌∙◌, subst, subst₂, ℕ, List, [], ◌∷◌, ◌++◌, Option, Some, None, arith, inl, inr}
 use Rattle.hc_term.specs.declared.task.Task.{Task}
 use Rattle.hc_term.specs.declared.run.Item.{Item}
 use Rattle.hc_trace.specs.declared.traces.Trace.{Trace}
@@ -11,9 +10,8 @@ use Rattle.hc_order.specs.Verified.{IsShown}
 use Rattle.hc_order.proofs.Paths.{one_more}
 use Rattle.hc_order.proofs.Traces.{yes_is_trace}
 use Rattle.hc_order.proofs.Verdicts.{shown-before}
-use Rattle.hc_verify.specs.declared.verdict.Verdict.{Verdict}
 use Rattle.hc_verify.specs.declared.verdict.Verdict.TheVariants.{Yes, No}
-use Rattle.hc_verify.specs.Judging.{AreItems, IsEnd, FailsFrom, IsVerifiedTrace, JudgesTrace}
+use Rattle.hc_verify.specs.Judging.{AreItems, IsEnd, FailsFrom, IsVerifiedTrace}
 use Rattle.hc_verify.specs.Laws.{TraceHasOneVerdict, YesIsOfBehaviour}
 use Rattle.hc_verify.proofs.OneName.{one_item, one_items, one_end}
 

@@ -94,12 +94,18 @@ impl Walk {
         ensures { (sys : AnySystem) (c : Configuration) → IsAt sys self.now c → IsTrue result ↔ Meets meeting.now c }
     {
         let posts = self.board.posts();
-        let sent = sent_value(posts[meeting.sender as usize].offers.as_slice(), meeting.channel);
+        let sent = sent_value(
+            posts[meeting.sender as usize].offers.as_slice(),
+            meeting.channel,
+        );
         let Some(value) = sent else {
             return false;
         };
         is_same(value, meeting.value)
-            && is_receiving(posts[meeting.receiver as usize].offers.as_slice(), meeting.channel)
+            && is_receiving(
+                posts[meeting.receiver as usize].offers.as_slice(),
+                meeting.channel,
+            )
     }
 
     /// Lets the two meet, if both offer it.
