@@ -5,8 +5,10 @@ pub mod BothHalting
 pub mod Counted
 pub mod Delaying
 pub mod EndReached
+pub mod FirstParts
 pub mod LineByLine
 pub mod LineNamed
+pub mod LineTexts
 pub mod Logging
 pub mod MeetingLine
 pub mod Moves
@@ -24,6 +26,8 @@ pub mod StandingStill
 pub mod Stilling
 pub mod Strolled
 pub mod Terminating
+pub mod TextVerdicts
 pub mod TimePasses
 pub mod Told
+pub mod ToldLines
 pub mod Verdicts

@@ -8,4 +8,5 @@ pub mod Named
 pub mod Places
 pub mod Stands
 pub mod States
+pub mod Texts
 pub mod Timing
