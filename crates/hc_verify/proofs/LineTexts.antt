@@ -1,5 +1,5 @@
 -- A line that names an item spells what is written of it.
-use Rattle.std.proofs.Common.{◌≡◌, refl, sym, ap, ap₂, ◌∙◌, subst, ℕ, zero, suc, List, [], ◌∷◌, ◌++◌, map, slice_get, Option, Some, None, append_assoc, if◌then◌else◌, Bool, true, false}
+use Rattle.std.proofs.Common.{◌≡◌, refl, sym, ap, ap₂, ◌∙◌, ℕ, zero, suc, List, [], ◌∷◌, ◌++◌, map, slice_get, Option, Some, None, append_assoc, if◌then◌else◌, Bool, true, false}
 use Rattle.std.specs.Prelude.{codes}
 use Rattle.std.specs.List.{AllByRecursion, flat_map}
 use Rattle.hc_rational.specs.Words.{Rational}
@@ -23,7 +23,7 @@ use Rattle.hc_trace.specs.declared.traces.EndKind.{EndKind}
 use Rattle.hc_trace.specs.declared.traces.EndKind.TheVariants as kind
 use Rattle.hc_trace.specs.Traces.{IsEvent, IsLine, event_word, event_parts, line_text, end_word, end_parts, end_words}
 use Rattle.hc_order.specs.Shown.{is_visible, shown, End}
-use Rattle.hc_verify.specs.Named.{name_of, HasName, IsEndNamed, IsChannelNamed, IsStepOf, IsItemOf, IsStopOf, IsEndOf}
+use Rattle.hc_verify.specs.Named.{name_of, IsEndNamed, IsStepOf, IsItemOf, IsStopOf, IsEndOf}
 use Rattle.hc_verify.specs.Judging.{AreItems}
 use Rattle.hc_verify.specs.Texts.{step_line, step_lines}
 

@@ -1,16 +1,13 @@
 -- The trace of a text is verified exactly where the text is a first part of that of a behaviour.
 use Rattle.std.proofs.Common.{◌≡◌, refl, sym, ap, ap₂, ◌∙◌, subst, ℕ, List, [], ◌∷◌, ◌++◌, Option, Some, None, append_assoc}
 use Rattle.std.specs.Prelude.{IsTrue}
-use Rattle.std.specs.List.{AllByRecursion, flat_map}
+use Rattle.std.specs.List.{flat_map}
 use Rattle.std.proofs.lemmas.List.{append-nil, append_cancel_left}
 use Rattle.hc_rational.specs.Words.{Rational}
 use Rattle.hc_term.specs.declared.system.System.{System}
 use Rattle.hc_term.specs.declared.task.Task.{Task}
 use Rattle.hc_term.specs.declared.run.Item.{Item}
-use Rattle.hc_term.specs.declared.run.Stop.{Stop}
-use Rattle.hc_term.specs.declared.model.Configuration.{Configuration}
 use Rattle.hc_term.specs.Step.{opening, Leads}
-use Rattle.hc_term.specs.Stop.{IsBehaviour}
 use Rattle.hc_term.specs.TraceText.{words, end_line}
 use Rattle.hc_runs.specs.Fractions.{task_numbers}
 use Rattle.hc_runs.proofs.RunsFit.{runs_keep_fractions, items_are_fractions}
@@ -27,7 +24,7 @@ use Rattle.hc_order.specs.Verified.{IsTrace}
 use Rattle.hc_verify.specs.Judging.{AreItems, IsEnd}
 use Rattle.hc_verify.specs.Named.{IsEndOf}
 use Rattle.hc_verify.specs.Laws.{IsOfBehaviour, YesIsFirstPart}
-use Rattle.hc_verify.specs.Texts.{step_lines, text_in, IsFirstPart}
+use Rattle.hc_verify.specs.Texts.{step_lines, IsFirstPart}
 use Rattle.hc_verify.proofs.LineTexts.{lines_so, shown_lines, joined_lines, end_so_written}
 use Rattle.hc_verify.proofs.FirstParts.{AreFirst, are_first}
 use Rattle.hc_verify.proofs.ToldLines.{AreTold, are_told, end_told}

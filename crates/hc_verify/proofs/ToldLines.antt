@@ -1,6 +1,5 @@
 -- The lines and the end line that name what a run shows, in either version.
-use Rattle.std.proofs.Common.{◌≡◌, refl, sym, ap, ◌∙◌, subst, ℕ, zero, suc, ◌<◌, Bool, true, false, ◌&&◌, if◌then◌else◌, List, [], ◌∷◌, map, length, slice_get, Option, Some, None, is_some, arith}
-use Rattle.std.specs.Prelude.{IsTrue}
+use Rattle.std.proofs.Common.{◌≡◌, refl, ℕ, zero, suc, ◌<◌, Bool, true, false, if◌then◌else◌, List, [], ◌∷◌, map, length, slice_get, Option, Some, None, is_some, arith}
 use Rattle.std.specs.List.{AllByRecursion, list_all}
 use Rattle.std.proofs.lemmas.Bool.{and_parts}
 use Rattle.hc_rational.specs.Words.{Rational, IsFrac, fits}
@@ -25,8 +24,8 @@ use Rattle.hc_trace.specs.InRange.{StepInRange, AreInRange, StopInRange}
 use Rattle.hc_trace.specs.Traces.{IsEvent, IsLine, IsEnd}
 use Rattle.hc_trace.specs.Written.{HasWords}
 use Rattle.hc_trace.proofs.WrittenTrace.{user_within}
-use Rattle.hc_order.specs.Shown.{is_visible, shown, End}
-use Rattle.hc_verify.specs.Named.{name_of, HasName, IsEndNamed, IsChannelNamed, IsStepOf, IsItemOf, IsStopOf, IsEndOf}
+use Rattle.hc_order.specs.Shown.{is_visible, shown}
+use Rattle.hc_verify.specs.Named.{name_of, IsEndNamed, IsChannelNamed, IsStepOf, IsEndOf}
 use Rattle.hc_verify.specs.Judging.{AreItems}
 
 -- ---- names
