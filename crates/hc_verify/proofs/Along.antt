@@ -38,9 +38,6 @@ module _ (t : Task) (w : Walk) (room : ℕ) (c : Configuration) (r : IsReached t
   pub lines_within : length r.lines ≤ t.limit
   lines_within = omega (arith, few_lines t r.lines r.steps (opening t) c r.follows, r.left)
 
-  pub room_within : room ≤ t.limit
-  room_within = omega (arith, r.left)
-
 -- the end takes no more steps than are left
 end_within : (t : Task) (stop : Stop) (at : Rational) (room : ℕ) (c : Configuration) (m : ℕ) → ReachesEnd t stop at room c (Some m) → m ≤ room
 end_within t Limit at room c m h = omega (arith, h.0)

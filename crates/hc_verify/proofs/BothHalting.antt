@@ -15,10 +15,6 @@ use Rattle.hc_verify.proofs.Logging.{is_there}
 use Rattle.hc_verify.proofs.Stilling.{longest, all_shown}
 
 module _ (t : Task) (m : Meeting) (room : ℕ) (c : Configuration) (q r : ProcessState) where
-  pub sender_cannot : (mid new : Walk) → Halts t m.sender room c q mid None → BothHalt t m room c q r new None
-  sender_cannot mid new h n all le =
-      h all.sending all.sender all.sender_strolls all.sender_still (omega (arith, le, all.counted))
-
   module _ (k : ℕ) (mid : Walk) (first : Halts t m.sender room c q mid (Some k)) where
     abbrev pub between : Configuration
     between = replaced c m.sender first.1.0

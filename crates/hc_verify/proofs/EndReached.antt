@@ -14,7 +14,7 @@ use Rattle.hc_order.specs.Verified.{IsVerified, IsRefused, asked_at_stop}
 use Rattle.hc_order.proofs.Loop.{end_is_refused}
 use Rattle.hc_order.proofs.Verifying.{verified_on_demand}
 use Rattle.hc_verify.specs.declared.walk.Walk.{Walk}
-use Rattle.hc_verify.specs.Named.{IsStopOf, IsEndOf, IsThe}
+use Rattle.hc_verify.specs.Named.{IsEndOf}
 use Rattle.hc_verify.specs.Judging.{FailsFrom}
 use Rattle.hc_verify.specs.Following.{IsReached}
 use Rattle.hc_verify.specs.Ending.{Reaches, ReachesEnd, is_of_time}
@@ -106,19 +106,3 @@ module _ (t : Task) (w : Walk) (room : ℕ) (c : Configuration) (r : IsReached t
     refl,
     record { shown = are_shown t w room c r; refused = λ e is. refused_by_end e (h e is) },
   )
-
-  -- ---- by the stop that the end line names
-
-  -- where it names none, or one that can't be reached, it is the first line that fails
-  pub named_fails : (line : TraceEnd) (named : Option Stop) → IsThe (IsStopOf t.system line.kind line.who) named →
-      ((stop : Stop) → named ≡ Some stop → ReachesEnd t stop line.at room c None) → FailsFrom t r.lines [] (Some line) (length r.lines + 2)
-  named_fails line named the never = fails_by_end line (λ e is. never_so e is) where
-    never_so : (e : End) → IsEndOf t.system line e → ReachesEnd t e.stop e.at room c None
-    never_so e is = subst (λ (x : Rational). ReachesEnd t e.stop x room c None) is.at (never e.stop ((the e.stop).1 is.stop))
-
-  -- where it names one that is reached, the lines are verified with this end
-  pub named_verified : (line : TraceEnd) (stop : Stop) (m : ℕ) → IsThe (IsStopOf t.system line.kind line.who) (Some stop) →
-      ReachesEnd t stop line.at room c (Some m) → (e : End) × IsEndOf t.system line e × IsVerified t r.lines (Some e) (r.steps + m)
-  named_verified line stop m the h =
-      let e : End = record { at = line.at; stop = stop } in
-      (e, record { at = refl; stop = (the stop).0 refl }, verified_by_end e m h)

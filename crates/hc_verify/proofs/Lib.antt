@@ -24,7 +24,6 @@ pub mod Shows
 pub mod Spending
 pub mod StandingStill
 pub mod Stilling
-pub mod Strolled
 pub mod Terminating
 pub mod TextVerdicts
 pub mod TimePasses

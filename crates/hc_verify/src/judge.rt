@@ -70,9 +70,9 @@ impl Walk {
     }
 }
 
-/// Whether a trace is one of a behaviour of the task, or without an end line a first part of one; names of ends are
-/// compared where its lines have them. It moves each process only where a line asks for it, so that the fewest steps are
-/// taken.
+/// The verdict on a trace: whether it is one of a behaviour of the task, or without an end line a first part of one. Names
+/// of ends are compared where its lines have them. A process moves only where a line asks for it, so the fewest steps are
+/// taken. The one error is want of memory.
 pub fn verify(alloc: Global, task: &Task, trace: &Trace) -> Result<Verdict, AllocError>
     ensures { IfOk result (JudgesTrace task.now trace.now) }
 {

@@ -14,7 +14,9 @@ mod stops;
 mod timing;
 mod verdict;
 mod walk;
+mod words;
 
 pub use judge::verify;
 pub use laws::verdict_laws;
 pub use verdict::Verdict;
+pub use words::read_names;
