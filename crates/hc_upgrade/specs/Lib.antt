@@ -1,3 +1,4 @@
+pub mod Laws
 pub mod Routes
 pub mod Seen
 pub mod Stops

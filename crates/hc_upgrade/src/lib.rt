@@ -2,8 +2,10 @@
 #![tactic(auto)]
 
 mod event;
+mod laws;
 mod line;
 mod routes;
 mod whole;
 
+pub use laws::upgrade_laws;
 pub use whole::{UpgradeStop, upgrade};
