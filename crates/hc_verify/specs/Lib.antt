@@ -1,0 +1,12 @@
+pub mod Communicating
+pub mod Ending
+pub mod Following
+pub mod Halting
+pub mod Judging
+pub mod Laws
+pub mod Named
+pub mod Places
+pub mod Stands
+pub mod States
+pub mod Texts
+pub mod Timing
