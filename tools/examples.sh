@@ -1,6 +1,6 @@
 #!/usr/bin/env bash
-# Runs each example as its first line says (`# hcsp WORDS`), and compares what stands on output with NAME.trace, or on
-# error with NAME.refusal. The last line is 'N examples, M differ'; the status is 1 where one differs.
+# Runs each example as its first line says (`# hcsp WORDS`), and compares what stands on output with NAME.trace or
+# NAME.verdict, or on error with NAME.refusal. The last line is 'N examples, M differ'; the status is 1 where one differs.
 set -u
 home=$(cd "$(dirname "$(readlink -f "$0")")/.." && pwd)
 out=$(mktemp)
@@ -15,6 +15,8 @@ for source in "$home"/examples/*.hcsp; do
   name=${source%.hcsp}
   if [ -f "$name.refusal" ]; then
     cmp -s "$err" "$name.refusal" && [ ! -s "$out" ] && [ "$status" = 1 ]
+  elif [ -f "$name.verdict" ]; then
+    cmp -s "$out" "$name.verdict" && [ ! -s "$err" ]
   else
     cmp -s "$out" "$name.trace" && [ ! -s "$err" ]
   fi || { echo "examples: $(basename "$source") differs (status $status)"; wrong=$((wrong + 1)); }

@@ -1,6 +1,8 @@
 -- What the answers of the crates below say of a text: its tree or its system, or what is answered where it has none.
 use Rattle.std.proofs.Common.{◌≡◌, ◌≤◌, ℕ, true, false, List, [], length, Option, Some, None, Result, Ok, Err, MatchResult, IfOk, IfErr, ◌⊎◌, inl, inr, refl, sym, ap, subst, ◌∙◌}
 use Rattle.std.proofs.lemmas.List.{append-nil}
+use Rattle.hc_world.specs.declared.sources.ReadStop.{ReadStop}
+use Rattle.hc_world.specs.declared.sources.ReadStop.TheVariants as stops
 use Rattle.hc_world.specs.Reading.{ReadsAll}
 use Rattle.hc_world.specs.Sinks.{AddsFlushed, IsWhole}
 use Rattle.hc_world.specs.States.{SourceState, SinkState}
@@ -22,12 +24,12 @@ use Rattle.hc_finds.specs.declared.stop.CheckStop.TheVariants as check
 use Rattle.hc_check.specs.Checked as checks
 use Rattle.hc_term.specs.declared.system.System.{System}
 use Rattle.hc_cmd.specs.declared.refusal.Refusal.{Refusal}
-use Rattle.hc_cmd.specs.declared.refusal.Refusal.TheVariants.{Usage, Unread, Memory, TooLong, Unparsed, Unexpanded, Unchecked}
+use Rattle.hc_cmd.specs.declared.refusal.Refusal.TheVariants.{Usage, Unread, Memory, TooLong, NoTrace, Unparsed, Unexpanded, Unchecked, Untraced, Unconverted}
 use Rattle.std.specs.Result.{IsErrAnd}
 use Rattle.hc_cmd.specs.declared.prepared.Prepared.{Prepared}
 use Rattle.hc_cmd.specs.Reply.{Reply}
 use Rattle.hc_cmd.specs.Refusals.{refused}
-use Rattle.hc_cmd.specs.Answers.{OfText, no_source, source, OfTree, unexpanded, unchecked, accepted, OfSource, done}
+use Rattle.hc_cmd.specs.Sources.{OfText, no_source, source, OfTree, unexpanded, unchecked, accepted, OfSource, done}
 use Rattle.hc_cmd.specs.Prepared.{Accepts, FindsTree, reply_to, IsReady, Prepares, Readies, GivesNone}
 
 -- want of memory, or one of these replies
@@ -168,6 +170,15 @@ prepared_so G told (Err r) given is = inl (ap refused is)
 pub done_so : (a b : List ℕ) → a ≡ b → done a ≡ done b
 done_so a b e = ap done e
 
+-- ---- reading
+
+-- a text that is too long, or for which there is no memory, isn't one of which a read failed
+pub long_apart : {A : Type 0} (s : ReadStop) → s ≡ stops.TooLong → (let x : Result A ReadStop = Err s in x) ≡ Err stops.Failed → ⊥
+long_apart {A} s is e = let clash : (let x : Result A ReadStop = Err stops.TooLong in x) ≡ Err stops.Failed = sym (ap Err is) ∙ e in cc clash
+
+pub memory_apart : {A : Type 0} (s : ReadStop) → s ≡ stops.Memory → (let x : Result A ReadStop = Err s in x) ≡ Err stops.Failed → ⊥
+memory_apart {A} s is e = let clash : (let x : Result A ReadStop = Err stops.Memory in x) ≡ Err stops.Failed = sym (ap Err is) ∙ e in cc clash
+
 -- ---- what the words and the source give
 
 module _ {R S : Type 0} (call : Call R) (state : S → SourceState) (words : List (List ℕ)) (before after : S) where
@@ -194,6 +205,9 @@ module _ {R S : Type 0} (call : Call R) (state : S → SourceState) (words : Lis
   unread_readies request asked reads (Unparsed s) h = absurd h
   unread_readies request asked reads (Unexpanded s) h = absurd h
   unread_readies request asked reads (Unchecked s) h = absurd h
+  unread_readies request asked reads NoTrace h = absurd h
+  unread_readies request asked reads (Untraced s) h = absurd h
+  unread_readies request asked reads (Unconverted s) h = absurd h
 
   -- what is given where no source is read
   pub alone_readies : (request : R) → call.asks words request → call.reads request ≡ false → after ≡ before → (r : Result Prepared Refusal) →

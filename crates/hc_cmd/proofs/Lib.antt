@@ -1,8 +1,10 @@
 pub mod StandsLemmas
 pub mod Finding
+pub mod TracedTexts
 pub mod Statuses
 pub mod Calling
 pub mod OneReply
+pub mod OneTraced
 pub mod RunReplies
 pub mod Courses
 pub mod Reports

@@ -1,4 +1,4 @@
--- The call `answer` is well made; and what is replied is decided by the request and the text.
+-- The call `answer` is well made; and what is replied to a source is decided by its text.
 use Rattle.std.proofs.Common.{◌≡◌, ◌≤◌, ℕ, List, IsTrue, sym, ap, ap₂, subst, ◌∙◌}
 use Rattle.hc_limits.specs.Limits.{most_steps}
 use denote.Struct.Props.{props}
@@ -24,15 +24,17 @@ use Rattle.hc_term.specs.declared.task.Task.{Task}
 use Rattle.hc_term.specs.Canonical.{canonical}
 use Rattle.hc_term.specs.Given.{HasParts}
 use Rattle.hc_term.specs.Laws.{CanonicalIsBehaviour}
-use Rattle.hc_words.specs.declared.requests.Request.{Request}
-use Rattle.hc_words.specs.declared.requests.Request.TheVariants.{Check, Print, Simulate, Channels, Make}
+use Rattle.hc_trace.specs.Laws.{OneTrace, TextsAreNotRefused}
+use Rattle.hc_trace.specs.Laws as traces
+use Rattle.hc_verify.specs.Laws.{TraceHasOneVerdict}
 use Rattle.hc_words.specs.declared.settings.Made.{Made}
 use Rattle.hc_words.specs.declared.settings.Settings.{Settings}
 use Rattle.hc_words.proofs.OneRequest.{one_request}
 use Rattle.hc_cmd.specs.declared.refusal.Refusal.TheVariants.{Unexpanded, Unchecked}
 use Rattle.hc_cmd.specs.Reply.{Reply}
 use Rattle.hc_cmd.specs.Refusals.{refused, refused_at}
-use Rattle.hc_cmd.specs.Answers.{OfText, no_source, source, OfTree, unexpanded, unchecked, accepted, OfSource, OfTask, SumsUp, Answers, answering, telling, done}
+use Rattle.hc_cmd.specs.Sources.{OfText, no_source, source, OfTree, unexpanded, unchecked, accepted, OfSource, done}
+use Rattle.hc_cmd.specs.Answers.{OfTask, SumsUp, answering, telling}
 use Rattle.hc_cmd.specs.Made.{IsMadeTask, line_of}
 use Rattle.hc_cmd.specs.Laws.{CountsBehaviour, TellsBehaviour}
 use Rattle.hc_cmd.proofs.Calling.{IsWell}
@@ -70,12 +72,12 @@ one_task system seed horizon limit t u is of =
     same_task t u (is.same_system ∙ sym of.same_system) (is.same_seed ∙ sym of.same_seed) (is.same_horizon ∙ sym of.same_horizon) (is.same_limit ∙ sym of.same_limit)
 
 -- what is told of the task of a system with its settings is one reply
-one_told : (told : Task → Reply) (settings : Settings) (system : System) (r s : Reply) → OfTask told settings system r → OfTask told settings system s → r ≡ s
+pub one_told : (told : Task → Reply) (settings : Settings) (system : System) (r s : Reply) → OfTask told settings system r → OfTask told settings system s → r ≡ s
 one_told told settings system r s a b =
     a.stands ∙ ap told (one_task system settings.seed settings.horizon settings.limit a.task b.task a.parts b.parts) ∙ sym b.stands
 
 -- and so does the system of a made source
-one_sum : (made : Made) (system : System) (r s : Reply) → SumsUp made system r → SumsUp made system s → r ≡ s
+pub one_sum : (made : Made) (system : System) (r s : Reply) → SumsUp made system r → SumsUp made system s → r ≡ s
 one_sum made system r s a b =
     let line : Task → List ℕ = λ t. line_of made.pairs (canonical t).items (canonical t).stop in
     let same : a.line ≡ b.line = a.tells.says ∙ ap line (one_task system 0 _ _ a.tells.task b.tells.task a.tells.parts b.tells.parts) ∙ sym b.tells.says in
@@ -94,10 +96,14 @@ pub record Decided : Type 0 where
   pub one_system : OneSystem
   pub one_check_stop : systems.OneRefusal
   pub checked_not_refused : CheckedIsNotRefused
+  pub one_trace : OneTrace
+  pub one_line : traces.OneRefusal
+  pub trace_not_refused : TextsAreNotRefused
+  pub one_verdict : TraceHasOneVerdict
 
 module _ (d : Decided) where
   -- where a tree decides its reply, so does a text
-  text_decides : (G : Tree → Reply → Type 0) → ((tree : Tree) (r s : Reply) → G tree r → G tree s → r ≡ s) → (text : List ℕ) (r s : Reply) →
+  pub text_decides : (G : Tree → Reply → Type 0) → ((tree : Tree) (r s : Reply) → G tree r → G tree s → r ≡ s) → (text : List ℕ) (r s : Reply) →
       OfText G text r → OfText G text s → r ≡ s
   text_decides G one text r s (no_source f p is e) (no_source g q of h) =
       let same = d.one_refusal text f g p q is of in e ∙ ap₂ refused_at same.0 same.1 ∙ sym h
@@ -126,16 +132,9 @@ module _ (d : Decided) where
       let equal : x ≡ y = d.one_system g x y (subst (λ (z : Flat). IsChecked z x) same is) of in
       one g y r s (subst (λ (z : System). G g z r) equal (subst (λ (z : Flat). G z x r) same a)) b
 
-  source_decides : (G : Flat → System → Reply → Type 0) → ((flat : Flat) (system : System) (r s : Reply) → G flat system r → G flat system s → r ≡ s) →
+  pub source_decides : (G : Flat → System → Reply → Type 0) → ((flat : Flat) (system : System) (r s : Reply) → G flat system r → G flat system s → r ≡ s) →
       (text : List ℕ) (r s : Reply) → OfSource G text r → OfSource G text s → r ≡ s
   source_decides G one text r s a b = text_decides (OfTree G) (tree_decides G one) text r s a b
-
-  pub one_answer : (request : Request) (text : List ℕ) (r s : Reply) → Answers request text r → Answers request text s → r ≡ s
-  one_answer Check text r s a b = source_decides _ (λ flat system r s e f. e ∙ sym f) text r s a b
-  one_answer Print text r s a b = text_decides _ (λ tree r s e f. e ∙ sym f) text r s a b
-  one_answer (Simulate settings) text r s a b = source_decides _ (λ flat system r s x y. one_told _ settings system r s x y) text r s a b
-  one_answer (Channels settings) text r s a b = source_decides _ (λ flat system r s x y. one_told _ settings system r s x y) text r s a b
-  one_answer (Make made) text r s a b = source_decides _ (λ flat system r s x y. one_sum made system r s x y) _ r s a b
 
   -- ---- accepted texts
 

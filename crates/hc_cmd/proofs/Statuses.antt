@@ -1,5 +1,5 @@
 -- The statuses of answers: those of what is done, and those of refusals, which leave nothing on output.
-use Rattle.std.proofs.Common.{◌≡◌, ◌≢◌, ◌==◌, ℕ, Bool, false, List, [], ◌∷◌, IsTrue, refl, sym, ap, subst, ◌∙◌}
+use Rattle.std.proofs.Common.{◌≡◌, ◌≢◌, ◌==◌, ℕ, Bool, false, List, [], ◌∷◌, take, drop, Result, Ok, Err, IsTrue, refl, sym, ap, subst, ◌∙◌}
 use Rattle.std.specs.List.{list_any}
 use Rattle.hc_ast.specs.declared.tree.Tree.{Tree}
 use Rattle.hc_modules.specs.declared.flat.Flat.{Flat}
@@ -15,16 +15,21 @@ use Rattle.hc_term.specs.declared.system.System.{System}
 use Rattle.hc_term.specs.Canonical.{canonical}
 use Rattle.hc_term.specs.TraceText.{whole}
 use Rattle.hc_det.specs.Text.{channels_text}
+use Rattle.hc_trace.specs.declared.traces.Trace.{Trace}
+use Rattle.hc_verify.specs.declared.verdict.Verdict.{Verdict}
+use Rattle.hc_verify.specs.declared.verdict.Verdict.TheVariants.{Yes, No}
 use Rattle.hc_words.specs.declared.requests.Request.{Request}
-use Rattle.hc_words.specs.declared.requests.Request.TheVariants.{Check, Print, Simulate, Channels, Make}
+use Rattle.hc_words.specs.declared.requests.Request.TheVariants.{Check, Print, Simulate, Channels, Convert, Verify, Make}
 use Rattle.hc_words.specs.declared.settings.Settings.{Settings}
 use Rattle.hc_cmd.specs.Reply.{Reply}
 use Rattle.hc_cmd.specs.Refusals.{status_of_module_stop, status_of_check_stop}
-use Rattle.hc_cmd.specs.Answers.{OfText, no_source, source, OfTree, unexpanded, unchecked, accepted, OfSource, OfTask, Answers, status_at, telling}
+use Rattle.hc_cmd.specs.Sources.{OfText, no_source, source, OfTree, unexpanded, unchecked, accepted, OfSource}
+use Rattle.hc_cmd.specs.Traced.{OfTrace, refused_at_line, traced, OfTraced, no_trace, long_source, cut, converted, judged}
+use Rattle.hc_cmd.specs.Answers.{OfTask, Answers, status_at, telling}
 
 -- what is done ends with one of these
 abbrev pub is_done : ℕ → Bool
-is_done status = list_any (λ k. k == status) (0 ∷ 10 ∷ 11 ∷ 12 ∷ [])
+is_done status = list_any (λ k. k == status) (0 ∷ 10 ∷ 11 ∷ 12 ∷ 15 ∷ [])
 
 -- a text is refused with one of these, or memory runs out
 abbrev pub is_refusal : ℕ → Bool
@@ -101,6 +106,27 @@ pub source_answers : (G : Flat → System → Reply → Type 0) (text : List ℕ
     OfSource G text reply → IsAnswer reply
 source_answers G text reply given a = text_answers (OfTree G) text reply (λ tree. tree_answers G tree reply given) a
 
+trace_answers : (G : Trace → Reply → Type 0) (bytes : List ℕ) (reply : Reply) → ((trace : Trace) → G trace reply → IsAnswer reply) →
+    OfTrace G bytes reply → IsAnswer reply
+trace_answers G bytes reply given (refused_at_line n is e) = same_answer reply _ e (refuses refl refl)
+trace_answers G bytes reply given (traced trace is g) = given trace g
+
+-- a source with a trace behind it, where what both give is an answer
+traced_answers : (G : System → Trace → Reply → Type 0) (text : List ℕ) (reply : Reply) → ((system : System) (trace : Trace) → G system trace reply → IsAnswer reply) →
+    OfTraced G text reply → IsAnswer reply
+traced_answers G text reply given (no_trace none e) = same_answer reply _ e (refuses refl refl)
+traced_answers G text reply given (long_source place at long e) = same_answer reply _ e (refuses refl refl)
+traced_answers G text reply given (cut place at short a) =
+    source_answers _ (take place text) reply (λ flat system h. trace_answers (G system) (drop place text) reply (given system) h) a
+
+converted_answers : (new : Result (List ℕ) ℕ) → IsAnswer (converted new)
+converted_answers (Ok text) = does refl
+converted_answers (Err line) = refuses refl refl
+
+judged_answers : (lines : ℕ) (verdict : Verdict) → IsAnswer (judged lines verdict)
+judged_answers lines (Yes steps) = does refl
+judged_answers lines (No line) = does refl
+
 task_answers : (text : System → List Item → Rational → Stop → List ℕ) (settings : Settings) (system : System) (reply : Reply) →
     OfTask (telling text) settings system reply → IsAnswer reply
 task_answers text settings system reply s = same_answer reply _ s.stands (does (status_is_done (canonical s.task).stop))
@@ -110,4 +136,6 @@ is_answer Check text reply a = source_answers _ text reply (λ flat system e. sa
 is_answer Print text reply a = text_answers _ text reply (λ tree e. same_answer reply _ e (does refl)) a
 is_answer (Simulate settings) text reply a = source_answers _ text reply (λ flat system s. task_answers whole settings system reply s) a
 is_answer (Channels settings) text reply a = source_answers _ text reply (λ flat system s. task_answers channels_text settings system reply s) a
+is_answer Convert text reply a = traced_answers _ text reply (λ system trace e. same_answer reply _ e (converted_answers _)) a
+is_answer (Verify settings) text reply a = traced_answers _ text reply (λ system trace j. same_answer reply _ j.stands (judged_answers _ j.verdict)) a
 is_answer (Make made) text reply a = source_answers _ _ reply (λ flat system s. same_answer reply _ s.stands (does refl)) a

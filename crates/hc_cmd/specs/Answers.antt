@@ -1,18 +1,8 @@
 -- What is answered to the requests of a call.
 use Rattle.std.specs.Prelude.{◌≡◌, ℕ, Bool, true, false, List, [], ◌∷◌, ◌++◌, length, codes, decimal}
-use Rattle.hc_limits.specs.Limits.{most_source_bytes}
-use Rattle.hc_frac.specs.declared.place.Place.{Place}
-use Rattle.hc_ast.specs.declared.tree.Tree.{Tree}
-use Rattle.hc_ast.specs.declared.flaw.Flaw.{Flaw}
-use Rattle.hc_ast.specs.Source.{IsSource, IsRefused}
+use Rattle.hc_limits.specs.Limits.{most_source_bytes, most_text_bytes}
 use Rattle.hc_print.specs.Canonical.{canonical as canonical_spelling}
 use Rattle.hc_modules.specs.declared.flat.Flat.{Flat}
-use Rattle.hc_modules.specs.declared.flat.ModuleStop.{ModuleStop}
-use Rattle.hc_modules.specs.Refusals.{IsExpansion}
-use Rattle.hc_modules.specs.Refusals as modules
-use Rattle.hc_finds.specs.declared.stop.CheckStop.{CheckStop}
-use Rattle.hc_check.specs.Checked.{IsChecked}
-use Rattle.hc_check.specs.Checked as checks
 use Rattle.hc_rational.specs.Words.{Rational}
 use Rattle.hc_term.specs.declared.run.Item.{Item}
 use Rattle.hc_term.specs.declared.run.Stop.{Stop}
@@ -25,32 +15,15 @@ use Rattle.hc_term.specs.TraceText as trace
 use Rattle.hc_det.specs.Text.{channels_text}
 use Rattle.hc_make.specs.Made.{made_text}
 use Rattle.hc_words.specs.declared.requests.Request.{Request}
-use Rattle.hc_words.specs.declared.requests.Request.TheVariants.{Check, Print, Simulate, Channels, Make}
+use Rattle.hc_words.specs.declared.requests.Request.TheVariants.{Check, Print, Simulate, Channels, Convert, Verify, Make}
 use Rattle.hc_words.specs.declared.settings.Made.{Made}
 use Rattle.hc_words.specs.declared.settings.Settings.{Settings}
 use Rattle.hc_words.specs.Requests.{Ask}
-use Rattle.hc_cmd.specs.declared.refusal.Refusal.TheVariants.{Unexpanded, Unchecked}
 use Rattle.hc_cmd.specs.Reply.{Reply}
-use Rattle.hc_cmd.specs.Refusals.{refused, refused_at}
 use Rattle.hc_cmd.specs.Calls.{Call}
+use Rattle.hc_cmd.specs.Sources.{OfText, OfSource, done}
 use Rattle.hc_cmd.specs.Made.{TellsRun}
-
--- ---- of a text, and of a source
-
--- a text: where it's no source, what is wrong with it first, and where; else what its tree gives
-pub data OfText (Gives : Tree → Reply → Type 0) (text : List ℕ) (reply : Reply) : Type 0 where
-  no_source : (flaw : Flaw) (place : Place) → IsRefused text flaw place → reply ≡ refused_at flaw place → OfText Gives text reply
-  source : (tree : Tree) → IsSource text tree → Gives tree reply → OfText Gives text reply
-
--- a tree: where it isn't accepted, the first refusal of expansion, or of the checks; else what its processes and its system give
-pub data OfTree (Gives : Flat → System → Reply → Type 0) (tree : Tree) (reply : Reply) : Type 0 where
-  unexpanded : (stop : ModuleStop) → modules.IsRefused tree stop → reply ≡ refused (Unexpanded stop) → OfTree Gives tree reply
-  unchecked : (flat : Flat) (stop : CheckStop) → IsExpansion tree flat → checks.IsRefused flat stop → reply ≡ refused (Unchecked stop) →
-      OfTree Gives tree reply
-  accepted : (flat : Flat) (system : System) → IsExpansion tree flat → IsChecked flat system → Gives flat system reply → OfTree Gives tree reply
-
-abbrev pub OfSource : (Flat → System → Reply → Type 0) → List ℕ → Reply → Type 0
-OfSource Gives = OfText (OfTree Gives)
+use Rattle.hc_cmd.specs.Traced.{OfTraced, Converts, Judges}
 
 -- ---- what the actions give
 
@@ -59,10 +32,6 @@ abbrev pub size_of : Flat → System → List ℕ
 size_of flat system =
     codes "accepted processes " ++ decimal (length system.processes) ++ codes " channels " ++ decimal (length system.channels)
     ++ codes " statements " ++ decimal flat.statements ++ 10 ∷ []
-
--- nothing but this text on output
-abbrev pub done : List ℕ → Reply
-done text = record { status = 0; out = text; err = [] }
 
 -- the status of a run by its stop
 abbrev pub status_at : Stop → ℕ
@@ -104,6 +73,8 @@ Answers Check = OfSource (λ flat system reply. reply ≡ done (size_of flat sys
 Answers Print = OfText (λ tree reply. reply ≡ done (canonical_spelling tree))
 Answers (Simulate settings) = OfSource (λ flat. OfTask simulated settings)
 Answers (Channels settings) = OfSource (λ flat. OfTask listed settings)
+Answers Convert = OfTraced Converts
+Answers (Verify settings) = OfTraced (Judges settings)
 Answers (Make made) = λ text. OfSource (λ flat. SumsUp made) (made_text made.pairs made.seed)
 
 -- all but `make` read a source
@@ -111,6 +82,12 @@ abbrev pub reads_source : Request → Bool
 reads_source (Make made) = false
 reads_source _ = true
 
+-- the most bytes that are read: a source alone is shorter than one with a trace behind it
+abbrev pub most_bytes_of : Request → ℕ
+most_bytes_of Convert = most_text_bytes
+most_bytes_of (Verify settings) = most_text_bytes
+most_bytes_of _ = most_source_bytes
+
 -- the call `answer`
 abbrev pub answering : Call Request
-answering = record { asks = Ask; reads = reads_source; most_of = λ _. most_source_bytes; answers = Answers }
+answering = record { asks = Ask; reads = reads_source; most_of = most_bytes_of; answers = Answers }

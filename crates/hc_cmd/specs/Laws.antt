@@ -1,5 +1,5 @@
 -- What holds of all texts.
-use Rattle.std.specs.Prelude.{◌≡◌, ◌+◌, ℕ, Bool, true, false, List, [], length, min, sum, Some}
+use Rattle.std.specs.Prelude.{◌≡◌, ◌+◌, ◌↔◌, ℕ, Bool, true, false, List, [], length, take, drop, min, sum, Some, IsTrue}
 use Rattle.hc_make.specs.Made.{made_text}
 use Rattle.hc_check.specs.Accepted.{IsAccepted}
 use Rattle.hc_rational.specs.Words.{Rational}
@@ -12,18 +12,28 @@ use Rattle.hc_term.specs.Canonical.{canonical}
 use Rattle.hc_term.specs.Given.{HasParts}
 use Rattle.hc_term.specs.Stop.{IsBehaviour}
 use Rattle.hc_term.specs.TraceText.{whole}
+use Rattle.hc_runs.specs.Fractions.{task_numbers}
 use Rattle.hc_runs.specs.Turns.{Turns}
 use Rattle.hc_order.specs.Determinate.{is_determinate}
 use Rattle.hc_order.specs.Laws.{IsSettled}
 use Rattle.hc_det.specs.Text.{channels_text}
+use Rattle.hc_trace.specs.declared.traces.Trace.{Trace}
+use Rattle.hc_trace.specs.Splitting.{IsFirstHeader}
+use Rattle.hc_trace.specs.Traces.{IsTraceText}
+use Rattle.hc_upgrade.specs.Upgraded.{upgraded_text}
+use Rattle.hc_trace.specs.Written.{HasWords}
+use Rattle.hc_verify.specs.Laws.{IsOfBehaviour}
+use Rattle.hc_verify.specs.Texts.{IsFirstPart}
 use Rattle.hc_words.specs.declared.requests.Request.{Request}
-use Rattle.hc_words.specs.declared.requests.Request.TheVariants.{Check, Simulate, Channels, Make}
+use Rattle.hc_words.specs.declared.requests.Request.TheVariants.{Check, Simulate, Channels, Convert, Verify, Make}
 use Rattle.hc_words.specs.declared.settings.Made.{Made}
 use Rattle.hc_words.specs.declared.settings.RunRequest.{RunRequest}
 use Rattle.hc_words.specs.declared.settings.Settings.{Settings}
 use Rattle.hc_cmd.specs.Reply.{Reply}
 use Rattle.hc_cmd.specs.Made.{IsMadeTask, line_of}
-use Rattle.hc_cmd.specs.Answers.{Answers, OfSource, done, size_of, status_at}
+use Rattle.hc_cmd.specs.Sources.{OfSource, done}
+use Rattle.hc_cmd.specs.Traced.{converted}
+use Rattle.hc_cmd.specs.Answers.{Answers, size_of, status_at}
 use Rattle.hc_cmd.specs.Running.{Runs, report_for}
 
 -- a text has at most one system
@@ -62,6 +72,41 @@ abbrev pub ListingIsBehaviour : Type 0
 ListingIsBehaviour =
     (settings : Settings) (text : List ℕ) (system : System) (reply : Reply) → IsAccepted text system → Answers (Channels settings) text reply →
     (task : Task) × HasParts system settings.seed settings.horizon settings.limit task × TellsBehaviour channels_text task reply
+
+-- in front of the first line that is a header stands an accepted text with this system, and from there on the text of this trace
+pub record IsTracedSource (text : List ℕ) (system : System) (trace : Trace) : Type 0 where
+  pub place : ℕ
+  pub cut_at : IsFirstHeader text place
+  pub accepted : IsAccepted (take place text) system
+  pub traced : IsTraceText (drop place text) trace
+
+-- What `convert` writes of an accepted text with a trace behind it is that trace made new.
+abbrev pub ConversionIsNew : Type 0
+ConversionIsNew =
+    (text : List ℕ) (system : System) (trace : Trace) (reply : Reply) → IsTracedSource text system trace → Answers Convert text reply →
+    reply ≡ converted (upgraded_text system trace)
+
+-- the status is 0 exactly where the trace is one of a behaviour of the task, or without an end line a first part of one, and else 15
+pub record IsVerdict (task : Task) (trace : Trace) (reply : Reply) : Type 0 where
+  pub yes : (reply.status ≡ 0) ↔ IsOfBehaviour task trace
+  pub no : (reply.status ≡ 15) ↔ ¬ (IsOfBehaviour task trace)
+
+-- What `verify` tells of an accepted text with a trace behind it: whether the trace is one of a behaviour of the system, with the
+-- seed, the horizon and the limit of the words.
+abbrev pub VerifiedIsOfBehaviour : Type 0
+VerifiedIsOfBehaviour =
+    (settings : Settings) (text : List ℕ) (system : System) (trace : Trace) (reply : Reply) → IsTracedSource text system trace →
+    Answers (Verify settings) text reply →
+    (task : Task) × HasParts system settings.seed settings.horizon settings.limit task × IsVerdict task trace reply
+
+-- Where names are words and numbers fractions, as the types of a system and of a task say, its status is 0 exactly where what
+-- stands behind the source is a first part of the text of a behaviour, in its version.
+abbrev pub VerifiedIsFirstPart : Type 0
+VerifiedIsFirstPart =
+    (settings : Settings) (text : List ℕ) (system : System) (trace : Trace) (reply : Reply) (is : IsTracedSource text system trace) →
+    Answers (Verify settings) text reply → HasWords system →
+    (task : Task) × HasParts system settings.seed settings.horizon settings.limit task
+    × (IsTrue (task_numbers task) → ((reply.status ≡ 0) ↔ IsFirstPart task trace.version (drop is.place text)))
 
 -- on output stands the line that tells of a behaviour of the task
 pub record CountsBehaviour (pairs : ℕ) (task : Task) (reply : Reply) : Type 0 where

@@ -1,6 +1,8 @@
 pub mod Reply
 pub mod Refusals
 pub mod Calls
+pub mod Sources
+pub mod Traced
 pub mod Made
 pub mod Answers
 pub mod Running

@@ -1,5 +1,6 @@
 -- What is ready to be written, and how its writing ends.
-use Rattle.std.specs.Prelude.{◌≡◌, ◌⊎◌, ℕ, false, List, IsSome, Result, Ok, Err, MatchResult}
+use Rattle.std.specs.Prelude.{◌≡◌, ◌≤◌, ◌⊎◌, ℕ, false, List, take, drop, IsSome, Result, Ok, Err, MatchResult}
+use Rattle.hc_limits.specs.Limits.{most_source_bytes}
 use Rattle.hc_ast.specs.declared.tree.Tree.{Tree}
 use Rattle.hc_ast.specs.Source.{IsSource}
 use Rattle.hc_modules.specs.declared.flat.Flat.{Flat}
@@ -7,6 +8,9 @@ use Rattle.hc_modules.specs.Refusals.{IsExpansion}
 use Rattle.hc_check.specs.Checked.{IsChecked}
 use Rattle.hc_term.specs.declared.system.System.{System}
 use Rattle.hc_joint.specs.Keeps.{opened}
+use Rattle.hc_trace.specs.declared.traces.Trace.{Trace}
+use Rattle.hc_trace.specs.Splitting.{IsFirstHeader}
+use Rattle.hc_trace.specs.Traces.{IsTraceText}
 use Rattle.hc_world.specs.Counts.{Rose}
 use Rattle.hc_world.specs.Reading.{ReadsAll, ReadsPast, ReadsWithin}
 use Rattle.hc_world.specs.States.{SourceState, SinkState}
@@ -24,7 +28,9 @@ use Rattle.hc_cmd.specs.Reply.{Reply}
 use Rattle.hc_cmd.specs.Calls.{Call, Replies}
 use Rattle.hc_cmd.specs.Running as running
 use Rattle.hc_cmd.specs.Refusals.{refused}
-use Rattle.hc_cmd.specs.Answers.{OfText, OfSource, done, simulated}
+use Rattle.hc_cmd.specs.Traced.{OfTraced}
+use Rattle.hc_cmd.specs.Sources.{OfText, OfSource, done}
+use Rattle.hc_cmd.specs.Answers.{simulated}
 
 -- it has done nothing yet
 abbrev pub AtOpening : Simulation → Type 0
@@ -79,6 +85,23 @@ FindsTree text result =
 abbrev pub FindsSystem : List ℕ → Result (Flat × System) Refusal → Type 0
 FindsSystem text result =
     MatchResult result (λ p. Accepts text p.0 p.1) (λ r. (refused r ≡ refused Memory) ⊎ OfSource (λ _ _ _. ⊥) text (refused r))
+
+-- the text is cut there, and what is in front isn't longer than a source may be
+abbrev pub IsCutAt : List ℕ → ℕ → Type 0
+IsCutAt text place = IsFirstHeader text place × (place ≤ most_source_bytes)
+
+-- the text is an accepted source with this system, and this trace behind it
+pub record AcceptsTraced (text : List ℕ) (system : System) (trace : Trace) : Type 0 where
+  pub place : ℕ
+  pub cut_at : IsCutAt text place
+  pub flat : Flat
+  pub accepts : Accepts (take place text) flat system
+  pub traced : IsTraceText (drop place text) trace
+
+-- the system and the trace of a text, or want of memory, or what is answered to a text that hasn't both
+abbrev pub FindsTraced : List ℕ → Result (System × Trace) Refusal → Type 0
+FindsTraced text result =
+    MatchResult result (λ p. AcceptsTraced text p.0 p.1) (λ r. (refused r ≡ refused Memory) ⊎ OfTraced (λ _ _ _. ⊥) text (refused r))
 
 -- what is ready lets such a reply stand; or want of memory, or a refusal that is such a reply
 abbrev pub Prepares : (Reply → Type 0) → Result Prepared Refusal → Type 0

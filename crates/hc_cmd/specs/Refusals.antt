@@ -11,9 +11,13 @@ use Rattle.hc_finds.specs.declared.stop.What as much
 use Rattle.hc_finds.specs.declared.stop.What.TheVariants as what
 use Rattle.hc_finds.specs.declared.stop.CheckStop as checks
 use Rattle.hc_finds.specs.declared.stop.CheckStop.TheVariants as check
+use Rattle.hc_trace.specs.declared.reading.TraceStop as reads
+use Rattle.hc_trace.specs.declared.reading.TraceStop.TheVariants as reading
+use Rattle.hc_upgrade.specs.declared.whole.UpgradeStop as makes
+use Rattle.hc_upgrade.specs.declared.whole.UpgradeStop.TheVariants as making
 use Rattle.hc_cmd.specs.Reply.{Reply}
 use Rattle.hc_cmd.specs.declared.refusal.Refusal.{Refusal}
-use Rattle.hc_cmd.specs.declared.refusal.Refusal.TheVariants.{Usage, Unread, Memory, TooLong, Unparsed, Unexpanded, Unchecked}
+use Rattle.hc_cmd.specs.declared.refusal.Refusal.TheVariants.{Usage, Unread, Memory, TooLong, NoTrace, Unparsed, Unexpanded, Unchecked, Untraced, Unconverted}
 
 -- a message as a line
 abbrev pub line : List ℕ → List ℕ
@@ -84,23 +88,49 @@ message_of_check_stop (check.TwoSenders p) = at_place p (codes "channel has two 
 message_of_check_stop (check.TwoReceivers p) = at_place p (codes "channel has two receivers")
 message_of_check_stop check.Memory = codes "out of memory"
 
+abbrev pub status_of_trace_stop : reads.TraceStop → ℕ
+status_of_trace_stop reading.Memory = 5
+status_of_trace_stop _ = 1
+
+-- a message about a line of a trace; the header is line 1
+abbrev pub at_line : ℕ → List ℕ → List ℕ
+at_line n message = codes "trace line " ++ decimal n ++ message
+
+abbrev pub message_of_trace_stop : reads.TraceStop → List ℕ
+message_of_trace_stop (reading.Line n) = at_line n []
+message_of_trace_stop reading.Memory = codes "out of memory"
+
+abbrev pub status_of_upgrade_stop : makes.UpgradeStop → ℕ
+status_of_upgrade_stop making.Memory = 5
+status_of_upgrade_stop _ = 1
+
+abbrev pub message_of_upgrade_stop : makes.UpgradeStop → List ℕ
+message_of_upgrade_stop (making.Channel n) = at_line n (codes ": channel")
+message_of_upgrade_stop making.Memory = codes "out of memory"
+
 abbrev pub status_of : Refusal → ℕ
 status_of Usage = 2
 status_of Unread = 3
 status_of Memory = 5
 status_of (TooLong most) = 1
+status_of NoTrace = 1
 status_of (Unparsed s) = status_of_stop s
 status_of (Unexpanded s) = status_of_module_stop s
 status_of (Unchecked s) = status_of_check_stop s
+status_of (Untraced s) = status_of_trace_stop s
+status_of (Unconverted s) = status_of_upgrade_stop s
 
 abbrev pub message_of : Refusal → List ℕ
 message_of Usage = codes "usage: hcsp ACTION [N] [--seed K] [--horizon T] [--limit K] [--workers K] [--steps K] [--report] [--channels]"
 message_of Unread = codes "read failed"
 message_of Memory = codes "out of memory"
 message_of (TooLong most) = codes "source longer than " ++ decimal most ++ codes " bytes"
+message_of NoTrace = codes "no trace"
 message_of (Unparsed s) = message_of_stop s
 message_of (Unexpanded s) = message_of_module_stop s
 message_of (Unchecked s) = message_of_check_stop s
+message_of (Untraced s) = message_of_trace_stop s
+message_of (Unconverted s) = message_of_upgrade_stop s
 
 -- nothing stands on output, and the line on error
 abbrev pub refused : Refusal → Reply

@@ -13,7 +13,8 @@ use Rattle.hc_words.specs.declared.settings.RunRequest.{RunRequest}
 use Rattle.hc_words.specs.Requests.{AskRun}
 use Rattle.hc_cmd.specs.Reply.{Reply}
 use Rattle.hc_cmd.specs.Calls.{Call}
-use Rattle.hc_cmd.specs.Answers.{OfSource, status_at}
+use Rattle.hc_cmd.specs.Sources.{OfSource}
+use Rattle.hc_cmd.specs.Answers.{status_at}
 
 -- ---- the numbers of a run
 

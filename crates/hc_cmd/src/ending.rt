@@ -1,7 +1,7 @@
 //! How a call ends.
 
 ghost use Rattle.std.specs.Prelude.{◌≡◌, []};
-ghost use Rattle.hc_cmd.specs.Answers.{done};
+ghost use Rattle.hc_cmd.specs.Sources.{done};
 ghost use Rattle.hc_cmd.specs.Prepared as spec;
 
 use arrayvec::ArrayString;

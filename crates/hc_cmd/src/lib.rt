@@ -13,6 +13,7 @@ mod replying;
 mod report;
 mod running;
 mod simulation;
+mod tracing;
 
 pub use answering::{answer, answer_run};
 pub use laws::acceptance_laws;

@@ -5,7 +5,8 @@ ghost use Rattle.std.specs.String.{string_bytes};
 ghost use Rattle.hc_limits.specs.Limits.{most_source_bytes};
 ghost use Rattle.hc_make.specs.Made.{made_text};
 ghost use Rattle.hc_words.specs.declared.requests.Request.TheVariants as asked;
-ghost use Rattle.hc_cmd.specs.Answers.{Answers, answering, done, OfSource, SumsUp};
+ghost use Rattle.hc_cmd.specs.Sources.{done, OfSource};
+ghost use Rattle.hc_cmd.specs.Answers.{Answers, answering, SumsUp};
 ghost use Rattle.hc_cmd.specs.Answers as spec;
 ghost use Rattle.hc_cmd.specs.Prepared.{reply_to, GivesNone, IsReady, IsTextOf, Performs, Prepares, Readies};
 
@@ -15,8 +16,9 @@ use crate::making::{made_settings, run_line};
 use crate::refusal::Refusal;
 use crate::running::Run;
 use crate::simulation::Simulation;
+use crate::tracing::{prepare_conversion, prepare_verdict};
 use arrayvec::ArrayString;
-use hc_limits::MOST_SOURCE_BYTES;
+use hc_limits::{MOST_SOURCE_BYTES, MOST_TEXT_BYTES};
 use hc_make::made_source;
 use hc_print::print;
 use hc_words::{Made, Request, Settings, WordsStop, asked_for};
@@ -37,7 +39,7 @@ pub enum Prepared {
 
 /// What is asked for of a text, or why there is nothing to write.
 fn prepare_text(alloc: Global, request: Request, text: &[u8]) -> Result<Prepared, Refusal>
-    requires { length text.now ≤ most_source_bytes }
+    requires { length text.now ≤ spec.most_bytes_of request }
     ensures { Prepares (Answers request text.now) result }
 {
     match request {
@@ -45,6 +47,8 @@ fn prepare_text(alloc: Global, request: Request, text: &[u8]) -> Result<Prepared
         Request::Print => prepare_spelling(alloc, text),
         Request::Simulate(settings) => prepare_simulation(alloc, settings, text),
         Request::Channels(settings) => prepare_listing(alloc, settings, text),
+        Request::Convert => prepare_conversion(alloc, text),
+        Request::Verify(settings) => prepare_verdict(alloc, settings, text),
         Request::Make(made) => prepare_made(alloc, made),
     }
 }
@@ -108,7 +112,26 @@ fn reads_source(request: &Request) -> bool
 {
     match request {
         Request::Make(_) => false,
-        Request::Check | Request::Print | Request::Simulate(_) | Request::Channels(_) => true,
+        Request::Check
+        | Request::Print
+        | Request::Simulate(_)
+        | Request::Channels(_)
+        | Request::Convert
+        | Request::Verify(_) => true,
+    }
+}
+
+/// The most bytes that are read for the request.
+fn most_bytes_of(request: &Request) -> usize
+    ensures { result ≡ spec.most_bytes_of request.now }
+{
+    match request {
+        Request::Convert | Request::Verify(_) => MOST_TEXT_BYTES,
+        Request::Check
+        | Request::Print
+        | Request::Simulate(_)
+        | Request::Channels(_)
+        | Request::Make(_) => MOST_SOURCE_BYTES,
     }
 }
 
@@ -128,22 +151,27 @@ pub(crate) fn prepare<S: Source>(
     if !reads_source(&request) {
         return prepare_text(alloc, request, b"");
     }
-    match text_of(alloc, source) {
+    let most = most_bytes_of(&request);
+    match text_of(alloc, source, most) {
         Ok(text) => prepare_text(alloc, request, text.as_slice()),
         Err(refusal) => Err(refusal),
     }
 }
 
-/// The text of a source, or why there is none.
-pub(crate) fn text_of<S: Source>(alloc: Global, source: &mut S) -> Result<Vec<u8>, Refusal>
+/// The text of a source, of so many bytes at most, or why there is none.
+pub(crate) fn text_of<S: Source>(
+    alloc: Global,
+    source: &mut S,
+    most: usize,
+) -> Result<Vec<u8>, Refusal>
     ensures { MatchResult result
-        (λ text. IsTextOf S.state source.old source.new text.items × (vec_len text ≤ most_source_bytes))
-        (GivesNone S.state most_source_bytes source.old source.new) }
+        (λ text. IsTextOf S.state source.old source.new text.items × (vec_len text ≤ most))
+        (GivesNone S.state most source.old source.new) }
 {
-    match read_all(alloc, source, MOST_SOURCE_BYTES) {
+    match read_all(alloc, source, most) {
         Ok(text) => Ok(text),
         Err(ReadStop::Failed) => Err(Refusal::Unread),
-        Err(ReadStop::TooLong) => Err(Refusal::TooLong(MOST_SOURCE_BYTES)),
+        Err(ReadStop::TooLong) => Err(Refusal::TooLong(most)),
         Err(ReadStop::Memory) => Err(Refusal::Memory),
     }
 }

@@ -10,6 +10,8 @@ use hc_check::{CheckStop, What};
 use hc_frac::Place;
 use hc_modules::ModuleStop;
 use hc_parse::ParseStop;
+use hc_trace::TraceStop;
+use hc_upgrade::UpgradeStop;
 use itoa::Buffer;
 use thiserror::Error;
 
@@ -29,12 +31,18 @@ pub enum Refusal {
     /// It has more than so many bytes.
     #[error("the source is too long")]
     TooLong(usize),
+    #[error("no trace is behind the source")]
+    NoTrace,
     #[error("the text isn't parsed")]
     Unparsed(ParseStop),
     #[error("the source isn't expanded")]
     Unexpanded(ModuleStop),
     #[error("the source doesn't pass the checks")]
     Unchecked(CheckStop),
+    #[error("what is behind the source isn't a trace")]
+    Untraced(TraceStop),
+    #[error("the trace isn't one of the system")]
+    Unconverted(UpgradeStop),
 }
 
 impl Refusal {
@@ -58,7 +66,9 @@ impl Refusal {
             Refusal::Memory
             | Refusal::Unparsed(ParseStop::Memory)
             | Refusal::Unexpanded(ModuleStop::Memory)
-            | Refusal::Unchecked(CheckStop::Memory) => 5,
+            | Refusal::Unchecked(CheckStop::Memory)
+            | Refusal::Untraced(TraceStop::Memory)
+            | Refusal::Unconverted(UpgradeStop::Memory) => 5,
             _ => 1,
         }
     }
@@ -72,9 +82,12 @@ impl Refusal {
             Refusal::Unread => line_of("read failed"),
             Refusal::Memory => line_of("out of memory"),
             Refusal::TooLong(most) => line_of_length(most),
+            Refusal::NoTrace => line_of("no trace"),
             Refusal::Unparsed(stop) => line_of_stop(stop),
             Refusal::Unexpanded(stop) => line_of_module_stop(stop),
             Refusal::Unchecked(stop) => line_of_check_stop(stop),
+            Refusal::Untraced(stop) => line_of_trace_stop(stop),
+            Refusal::Unconverted(stop) => line_of_upgrade_stop(stop),
         }
     }
 }
@@ -139,6 +152,24 @@ fn line_of_check_stop(stop: CheckStop) -> ArrayString<128>
     }
 }
 
+fn line_of_trace_stop(stop: TraceStop) -> ArrayString<128>
+    ensures { result.bytes ≡ spec.line (spec.message_of_trace_stop stop) }
+{
+    match stop {
+        TraceStop::Line { number } => line_at_line(number as u64, ""),
+        TraceStop::Memory => line_of("out of memory"),
+    }
+}
+
+fn line_of_upgrade_stop(stop: UpgradeStop) -> ArrayString<128>
+    ensures { result.bytes ≡ spec.line (spec.message_of_upgrade_stop stop) }
+{
+    match stop {
+        UpgradeStop::Channel { number } => line_at_line(number, ": channel"),
+        UpgradeStop::Memory => line_of("out of memory"),
+    }
+}
+
 /// The line of a text that is longer than so many bytes.
 fn line_of_length(most: usize) -> ArrayString<128>
     ensures { result.bytes ≡ spec.line (spec.message_of (Refusal.TooLong most)) }
@@ -175,6 +206,20 @@ fn line_at(place: Place, message: &str) -> ArrayString<128>
     line.push(':');
     line.push_str(buffer.format(place.column));
     line.push_str(": ");
+    line.push_str(message);
+    line.push('\n');
+    line
+}
+
+/// The line of a message about a line of a trace.
+fn line_at_line(number: u64, message: &str) -> ArrayString<128>
+    requires { length message.now ≤ 40 }
+    ensures { result.bytes ≡ spec.line (spec.at_line number message.now) }
+{
+    let mut buffer = Buffer::new();
+    let mut line = ArrayString::new();
+    line.push_str("hcsp: trace line ");
+    line.push_str(buffer.format(number));
     line.push_str(message);
     line.push('\n');
     line

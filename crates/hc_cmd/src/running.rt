@@ -3,7 +3,7 @@
 ghost use Rattle.std.specs.Prelude.{◌≡◌, ◌≤◌, false, IfOk, IsSome, length, map, MatchResult};
 ghost use Rattle.std.specs.String.{string_bytes};
 ghost use Rattle.hc_limits.specs.Limits.{most_source_bytes};
-ghost use Rattle.hc_cmd.specs.Answers.{OfSource};
+ghost use Rattle.hc_cmd.specs.Sources.{OfSource};
 ghost use Rattle.hc_cmd.specs.Prepared.{reply_to, IsReady, Prepares, Readies};
 ghost use Rattle.hc_cmd.specs.Running.{running, Runs};
 ghost use Rattle.hc_cmd.specs.Running as spec;
@@ -16,6 +16,7 @@ use crate::refusal::Refusal;
 use crate::report::report_of;
 use crate::simulation::{status_of_stop, task_of};
 use hc_joint::Joint;
+use hc_limits::MOST_SOURCE_BYTES;
 use hc_run::{Gate, Outcome, run};
 use hc_sim::write_history;
 use hc_term::System;
@@ -134,7 +135,7 @@ pub(crate) fn prepare_run<R: Threads + Wait + Sync, S: Source, G: Gate + Sync>(
         Err(WordsStop::Usage) => return Err(Refusal::Usage),
         Err(WordsStop::Memory) => return Err(Refusal::Memory),
     };
-    match text_of(alloc, source) {
+    match text_of(alloc, source, MOST_SOURCE_BYTES) {
         Ok(text) => prepare_run_of(rt, alloc, asked, text.as_slice(), gate),
         Err(refusal) => Err(refusal),
     }

@@ -19,14 +19,23 @@ fn words_of(alloc: Global, text: &str) -> Result<Vec<String>, AllocError> {
     Ok(words)
 }
 
-/// The bytes of a source. ` 5 blanks` has so many blanks; else `\n` is a newline.
-pub(crate) fn source_of(alloc: Global, text: &str) -> Result<Vec<u8>, AllocError> {
-    let text = text.strip_prefix(' ').unwrap_or(text);
-    if let Some(count) = text.strip_suffix(" blanks") {
-        return vec![in alloc; b' '; count.parse::<usize>().unwrap_or(0)];
+/// With how many blanks a source begins, where its row says so (`5 blanks`), and what is behind them.
+fn blanks_before(text: &str) -> (usize, &str) {
+    if let Some((count, rest)) = text.split_once(" blanks") {
+        if let Ok(count) = count.parse::<usize>() {
+            return (count, rest);
+        }
     }
-    let text = text.replace(alloc, "\\n", "\n")?;
-    Vec::from_slice(alloc, text.as_bytes())
+    (0, text)
+}
+
+/// The bytes of a source. ` 5 blanks` begins with so many blanks; `\n` is a newline.
+pub(crate) fn source_of(alloc: Global, text: &str) -> Result<Vec<u8>, AllocError> {
+    let (count, rest) = blanks_before(text.strip_prefix(' ').unwrap_or(text));
+    let mut bytes = vec![in alloc; b' '; count]?;
+    let rest = rest.replace(alloc, "\\n", "\n")?;
+    bytes.extend_from_slice(rest.as_bytes())?;
+    Ok(bytes)
 }
 
 /// What stands on a sink, with `\n` for each newline. A report is told by its totals.

@@ -6,6 +6,7 @@ mod again;
 mod calling;
 mod reports;
 mod tracing;
+mod verified;
 mod worlds;
 
 use again::again;
@@ -15,9 +16,10 @@ use std::io;
 use std::sync::Wait;
 use std::thread::Threads;
 use tracing::{place_of, trace_of};
+use verified::verified;
 
-/// The answer to a row `WORDS | WORLD | SOURCE`, or `channels_again TIMES WORKERS | | SOURCE`, `read_trace | | TEXT` or
-/// `split_text | | TEXT`. Any other line stands for itself.
+/// The answer to a row `WORDS | WORLD | SOURCE`, or `channels_again TIMES WORKERS | | SOURCE`, `verified WORDS | | SOURCE`,
+/// `read_trace | | TEXT` or `split_text | | TEXT`. Any other line stands for itself.
 fn answer_to<R: Threads + Wait + Sync>(
     rt: &R,
     alloc: Global,
@@ -32,10 +34,24 @@ fn answer_to<R: Threads + Wait + Sync>(
     match words.trim() {
         "read_trace" => trace_of(alloc, source_of(alloc, text)?.as_slice()),
         "split_text" => place_of(alloc, source_of(alloc, text)?.as_slice()),
-        words => match words.strip_prefix("channels_again ") {
-            Some(numbers) => again(rt, alloc, numbers, text),
-            None => answer_of(rt, alloc, words, world, text),
-        },
+        words => called(rt, alloc, words, world, text),
+    }
+}
+
+/// The answer to a row of calls.
+fn called<R: Threads + Wait + Sync>(
+    rt: &R,
+    alloc: Global,
+    words: &str,
+    world: &str,
+    source: &str,
+) -> Result<String, AllocError> {
+    if let Some(numbers) = words.strip_prefix("channels_again ") {
+        return again(rt, alloc, numbers, source);
+    }
+    match words.strip_prefix("verified ") {
+        Some(words) => verified(rt, alloc, words, source),
+        None => answer_of(rt, alloc, words, world, source),
     }
 }
 

@@ -75,7 +75,8 @@ action_of : Text → Option Action
 action_of t =
     if bytes_eq t (codes "check") then Some act.Check else (if bytes_eq t (codes "print") then Some act.Print
     else (if bytes_eq t (codes "simulate") then Some act.Simulate else (if bytes_eq t (codes "channels") then Some act.Channels
-    else (if bytes_eq t (codes "make") then Some act.Make else None))))
+    else (if bytes_eq t (codes "convert") then Some act.Convert else (if bytes_eq t (codes "verify") then Some act.Verify
+    else (if bytes_eq t (codes "make") then Some act.Make else None))))))
 
 its_name : (a : Action) → action_of (name_of_action a) ≡ Some a
 unfolding action_of
@@ -83,6 +84,8 @@ its_name act.Check = refl
 its_name act.Print = refl
 its_name act.Simulate = refl
 its_name act.Channels = refl
+its_name act.Convert = refl
+its_name act.Verify = refl
 its_name act.Make = refl
 
 one_of : (a b : Action) → Some a ≡ Some b → a ≡ b

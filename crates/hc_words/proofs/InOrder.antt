@@ -12,7 +12,7 @@ use Rattle.hc_words.specs.declared.actions.Action.{Action}
 use Rattle.hc_words.specs.declared.actions.Action.TheVariants as act
 use Rattle.hc_words.specs.declared.actions.Room.{Room}
 use Rattle.hc_words.specs.declared.requests.Request.{Request}
-use Rattle.hc_words.specs.declared.requests.Request.TheVariants.{Check, Print, Simulate, Channels, Make}
+use Rattle.hc_words.specs.declared.requests.Request.TheVariants.{Check, Print, Simulate, Channels, Convert, Verify, Make}
 use Rattle.hc_words.specs.declared.settings.Made.{Made}
 use Rattle.hc_words.specs.declared.settings.RunRequest.{RunRequest}
 use Rattle.hc_words.specs.declared.settings.Settings.{Settings}
@@ -84,6 +84,8 @@ action_plain act.Check = refl
 action_plain act.Print = refl
 action_plain act.Simulate = refl
 action_plain act.Channels = refl
+action_plain act.Convert = refl
+action_plain act.Verify = refl
 action_plain act.Make = refl
 
 -- words in order are taken, they give what their choices give, and there is room for that
@@ -153,6 +155,8 @@ asked_by act.Check cs wanted right = (Check, refl)
 asked_by act.Print cs wanted right = (Print, refl)
 asked_by act.Simulate cs wanted right = let s = settings_found cs right in (Simulate s.0, (s.0, s.1, refl))
 asked_by act.Channels cs wanted right = let s = settings_found cs right in (Channels s.0, (s.0, s.1, refl))
+asked_by act.Convert cs wanted right = (Convert, refl)
+asked_by act.Verify cs wanted right = let s = settings_found cs right in (Verify s.0, (s.0, s.1, refl))
 asked_by act.Make cs wanted right = let m = made_found cs wanted right in (Make m.0, (m.0, m.1, refl))
 
 run_found : (cs : List Choice) → All (λ c. IsRight c.setting c.value) cs → (r : RunRequest) × IsRun (given_by cs) r

@@ -5,7 +5,7 @@ use Rattle.hc_limits.specs.Limits.{most_pairs, most_steps, most_workers}
 use Rattle.clap.specs.Walk.{Text}
 use Rattle.hc_rational.specs.Words.{Rational, is_positive}
 use Rattle.hc_words.specs.declared.requests.Request.{Request}
-use Rattle.hc_words.specs.declared.requests.Request.TheVariants.{Simulate, Channels, Make}
+use Rattle.hc_words.specs.declared.requests.Request.TheVariants.{Simulate, Channels, Verify, Make}
 use Rattle.hc_words.specs.declared.settings.Made.{Made}
 use Rattle.hc_words.specs.declared.settings.RunRequest.{RunRequest}
 use Rattle.hc_words.specs.declared.settings.Settings.{Settings}
@@ -90,6 +90,8 @@ one_asked act.Check g r s x y = x ∙ sym y
 one_asked act.Print g r s x y = x ∙ sym y
 one_asked act.Simulate g r s x y = x.2 ∙ ap Simulate (one_simulation g x.0 y.0 x.1 y.1) ∙ sym y.2
 one_asked act.Channels g r s x y = x.2 ∙ ap Channels (one_simulation g x.0 y.0 x.1 y.1) ∙ sym y.2
+one_asked act.Convert g r s x y = x ∙ sym y
+one_asked act.Verify g r s x y = x.2 ∙ ap Verify (one_simulation g x.0 y.0 x.1 y.1) ∙ sym y.2
 one_asked act.Make g r s x y = x.2 ∙ ap Make (one_made g x.0 y.0 x.1 y.1) ∙ sym y.2
 
 pub one_request : (words : List Text) (r s : Request) → Ask words r → Ask words s → r ≡ s

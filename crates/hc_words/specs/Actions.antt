@@ -2,7 +2,7 @@
 use Rattle.std.specs.Prelude.{Bool, true, false, not, ◌&&◌, ◌||◌, Option, Some, None, codes}
 use Rattle.clap.specs.Walk.{Text}
 use Rattle.hc_words.specs.declared.actions.Action.{Action}
-use Rattle.hc_words.specs.declared.actions.Action.TheVariants.{Check, Print, Simulate, Channels, Make}
+use Rattle.hc_words.specs.declared.actions.Action.TheVariants.{Check, Print, Simulate, Channels, Convert, Verify, Make}
 use Rattle.hc_words.specs.declared.actions.Room.{Room}
 use Rattle.hc_words.specs.Line.{Given}
 
@@ -11,6 +11,8 @@ name_of_action Check = codes "check"
 name_of_action Print = codes "print"
 name_of_action Simulate = codes "simulate"
 name_of_action Channels = codes "channels"
+name_of_action Convert = codes "convert"
+name_of_action Verify = codes "verify"
 name_of_action Make = codes "make"
 
 abbrev pub nothing : Room
@@ -22,6 +24,8 @@ room_of Check = nothing
 room_of Print = nothing
 room_of Simulate = record nothing { seed = true; horizon = true; limit = true }
 room_of Channels = record nothing { seed = true; horizon = true; limit = true }
+room_of Convert = nothing
+room_of Verify = record nothing { seed = true; horizon = true; limit = true }
 room_of Make = record nothing { number = true; seed = true }
 
 -- the one action of the call that runs on threads, and its row

@@ -7,7 +7,7 @@ use Rattle.hc_rational.specs.Rational.{whole}
 use Rattle.hc_words.specs.declared.actions.Action.{Action}
 use Rattle.hc_words.specs.declared.actions.Action.TheVariants as act
 use Rattle.hc_words.specs.declared.requests.Request.{Request}
-use Rattle.hc_words.specs.declared.requests.Request.TheVariants.{Check, Print, Simulate, Channels, Make}
+use Rattle.hc_words.specs.declared.requests.Request.TheVariants.{Check, Print, Simulate, Channels, Convert, Verify, Make}
 use Rattle.hc_words.specs.declared.settings.Made.{Made}
 use Rattle.hc_words.specs.declared.settings.RunRequest.{RunRequest}
 use Rattle.hc_words.specs.declared.settings.Settings.{Settings}
@@ -52,6 +52,8 @@ Asks act.Check g r = r ≡ Check
 Asks act.Print g r = r ≡ Print
 Asks act.Simulate g r = (s : Settings) × AreSettings g s × (r ≡ Simulate s)
 Asks act.Channels g r = (s : Settings) × AreSettings g s × (r ≡ Channels s)
+Asks act.Convert g r = r ≡ Convert
+Asks act.Verify g r = (s : Settings) × AreSettings g s × (r ≡ Verify s)
 Asks act.Make g r = (m : Made) × IsMade g m × (r ≡ Make m)
 
 -- the words ask for this: clap takes them, and behind the program's name stands an action with what belongs to it

@@ -14,6 +14,8 @@ pub enum Action {
     Print,
     Simulate,
     Channels,
+    Convert,
+    Verify,
     Make,
 }
 
@@ -62,6 +64,8 @@ pub(crate) fn action_named(name: &str) -> Option<Action>
         "print" => Some(Action::Print),
         "simulate" => Some(Action::Simulate),
         "channels" => Some(Action::Channels),
+        "convert" => Some(Action::Convert),
+        "verify" => Some(Action::Verify),
         "make" => Some(Action::Make),
         _ => None,
     }
@@ -72,8 +76,8 @@ fn room_of(action: Action) -> Room
     ensures { result ≡ spec.room_of action }
 {
     match action {
-        Action::Check | Action::Print => NOTHING,
-        Action::Simulate | Action::Channels => Room {
+        Action::Check | Action::Print | Action::Convert => NOTHING,
+        Action::Simulate | Action::Channels | Action::Verify => Room {
             seed: true,
             horizon: true,
             limit: true,

@@ -30,6 +30,10 @@ pub enum Request {
     Simulate(Settings),
     /// To simulate the source that is read, and tell what is handed over on each channel.
     Channels(Settings),
+    /// To write the trace behind the source that is read as one of the last version.
+    Convert,
+    /// To tell whether the trace behind the source that is read is one of a behaviour.
+    Verify(Settings),
     /// To make a source, simulate it, and tell the size of its run.
     Make(Made),
 }
@@ -82,6 +86,11 @@ fn request_by(action: Action, given: &Given<'_>) -> Option<Request>
         Action::Channels => {
             let settings = settings_of(given)?;
             Some(Request::Channels(settings))
+        }
+        Action::Convert => Some(Request::Convert),
+        Action::Verify => {
+            let settings = settings_of(given)?;
+            Some(Request::Verify(settings))
         }
         Action::Make => {
             let made = made_of(given)?;

@@ -1,11 +1,13 @@
-use Rattle.std.proofs.Common.{subst}
+use Rattle.std.proofs.Common.{drop, subst}
 use Rattle.hc_ast.specs.declared.tree.Tree.{Tree}
 use Rattle.hc_modules.specs.declared.flat.Flat.{Flat}
 use Rattle.hc_modules.specs.Refusals.{IsExpansion}
 use Rattle.hc_check.specs.Checked.{IsChecked}
 use Rattle.hc_term.specs.TraceText.{whole}
 use Rattle.hc_det.specs.Text.{channels_text}
-use Rattle.hc_cmd.proofs.OneReply.{Decided, one_answer, text_accepted, task_tells, made_tells}
+use Rattle.hc_cmd.specs.Traced.{Converts, Judges}
+use Rattle.hc_cmd.proofs.OneReply.{Decided, text_accepted, task_tells, made_tells}
+use Rattle.hc_cmd.proofs.OneTraced.{one_answer, traced_there, judged_so, first_part_so}
 use Rattle.hc_cmd.proofs.RunReplies.{run_tells, run_lists}
 use Rattle.hc_cmd.proofs.laws.acceptance_laws.Goals as goal
 
@@ -21,6 +23,10 @@ returns c =
       one_system = c.system_laws.ensures.one_system;
       one_check_stop = c.system_laws.ensures.one_refusal;
       checked_not_refused = c.system_laws.ensures.not_refused;
+      one_trace = c.reading_laws.ensures.one_trace;
+      one_line = c.reading_laws.ensures.one_refusal;
+      trace_not_refused = c.reading_laws.ensures.not_refused;
+      one_verdict = c.verdict_laws.ensures.one;
     } in
     record {
       one_system = λ text s t a b.
@@ -34,6 +40,12 @@ returns c =
           task_tells c.step_laws.ensures.canonical whole settings system reply (text_accepted decided _ text system reply accepted a);
       listed = λ settings text system reply accepted a.
           task_tells c.step_laws.ensures.canonical channels_text settings system reply (text_accepted decided _ text system reply accepted a);
+      converted = λ text system trace reply is a. traced_there decided Converts text system trace reply is a;
+      verified = λ settings text system trace reply is a.
+          judged_so decided c.verdict_laws.ensures.yes settings system trace reply (traced_there decided (Judges settings) text system trace reply is a);
+      verified_text = λ settings text system trace reply is a words.
+          first_part_so decided c.verdict_laws.ensures.texts settings system trace reply (traced_there decided (Judges settings) text system trace reply is a)
+          (drop is.place text) is.traced words;
       made = λ made text system reply accepted a.
           made_tells c.step_laws.ensures.canonical made system reply (text_accepted decided _ _ system reply accepted a);
       run = λ asked text system reply accepted a. run_tells asked system reply (text_accepted decided _ text system reply accepted a);

@@ -1,6 +1,7 @@
-use Rattle.std.proofs.Common.{◌≡◌, ◌∙◌, refl, ap, sym, Err, subst, List, ℕ, true, false, arith}
+use Rattle.std.proofs.Common.{◌≡◌, ◌≤◌, ◌∙◌, refl, ap, sym, Err, subst, List, ℕ, length, true, false, arith}
 use Rattle.hc_world.specs.Reading.{ReadsAll}
 use Rattle.hc_cmd.specs.Answers.{answering, reads_source}
+use Rattle.hc_cmd.specs.Prepared.{GivesNone}
 use Rattle.hc_cmd.proofs.Finding.{alone_readies, text_readies, unread_readies, usage_readies}
 use Rattle.hc_cmd.proofs.prepared.prepare.Goals as goal
 
@@ -18,7 +19,8 @@ pub returns-in-Err : goal.returns-in-Err
 returns-in-Err g c =
     let reads : reads_source c.in-Ok.request ≡ true = sym c.reads_source.ensures ∙ c.if-not-reads_source.false in
     unread_readies answering g.S.Source.state _ c.args.source.now c.text_of.new.source c.in-Ok.request (c.in-Ok.ensures {u = tt}).asked reads
-    c.in-Err.refusal (c.in-Err.ensures {u = tt})
+    c.in-Err.refusal
+    (subst (λ (n : ℕ). GivesNone g.S.Source.state n c.args.source.now c.text_of.new.source c.in-Err.refusal) c.most_bytes_of-most.ensures (c.in-Err.ensures {u = tt}))
 
 pub returns-in-Ok-text_of : goal.returns-in-Ok-text_of
 returns-in-Ok-text_of g c =
@@ -28,4 +30,4 @@ returns-in-Ok-text_of g c =
     text_readies answering g.S.Source.state _ c.args.source.now c.text_of.new.source c.in-Ok.request c.as_slice.result.now
     (c.in-Ok.ensures {u = tt}).asked reads
     (subst (λ (bs : List ℕ). ReadsAll (g.S.Source.state c.args.source.now).left (g.S.Source.state c.text_of.new.source).left bs) (sym text) told.0.0)
-    (omega (arith, told.1, c.as_slice.ensures.len)) told.0.1 c.prepare_text-in-Ok-text_of.result c.prepare_text-in-Ok-text_of.ensures
+    (subst (λ (n : ℕ). length c.as_slice.result.now ≤ n) c.most_bytes_of-most.ensures (omega (arith, told.1, c.as_slice.ensures.len))) told.0.1 c.prepare_text-in-Ok-text_of.result c.prepare_text-in-Ok-text_of.ensures

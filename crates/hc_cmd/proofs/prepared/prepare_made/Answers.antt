@@ -1,7 +1,8 @@
 use Rattle.std.proofs.Common.{◌≡◌, ◌≤◌, ◌∙◌, ap, subst, List, ℕ, length, arith}
 use Rattle.hc_limits.specs.Limits.{most_source_bytes}
 use Rattle.hc_make.specs.Made.{made_text}
-use Rattle.hc_cmd.specs.Answers.{OfSource, SumsUp}
+use Rattle.hc_cmd.specs.Sources.{OfSource}
+use Rattle.hc_cmd.specs.Answers.{SumsUp}
 use Rattle.hc_cmd.specs.Prepared.{Prepares}
 use Rattle.hc_cmd.proofs.Finding.{ok_found}
 use Rattle.hc_cmd.proofs.prepared.prepare_made.Goals as goal

@@ -1,7 +1,7 @@
 use Rattle.std.proofs.Common.{◌≡◌, ◌∙◌}
 use Rattle.std.proofs.lemmas.Result.{err_from_is_err_and}
 use Rattle.hc_print.specs.Canonical.{canonical}
-use Rattle.hc_cmd.specs.Answers.{source}
+use Rattle.hc_cmd.specs.Sources.{source}
 use Rattle.hc_cmd.proofs.Finding.{memory_or, no_tree, done_so, ok_found}
 use Rattle.hc_cmd.proofs.prepared.prepare_spelling.Goals as goal
 

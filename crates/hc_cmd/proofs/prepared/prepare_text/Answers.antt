@@ -17,5 +17,12 @@ returns-in-Simulate c =
 pub returns-in-Channels : goal.returns-in-Channels
 returns-in-Channels c = subst (λ (r : Request). Prepares (Answers r c.args.text.now) c.prepare_listing.result) (sym c.in-Channels.is) c.prepare_listing.ensures
 
+pub returns-in-Convert : goal.returns-in-Convert
+returns-in-Convert c = subst (λ (r : Request). Prepares (Answers r c.args.text.now) c.prepare_conversion.result) (sym c.in-Convert.is) c.prepare_conversion.ensures
+
+pub returns-in-Verify : goal.returns-in-Verify
+returns-in-Verify c =
+    subst (λ (r : Request). Prepares (Answers r c.args.text.now) c.prepare_verdict.result) (sym c.in-Verify.is) c.prepare_verdict.ensures
+
 pub returns-in-Make : goal.returns-in-Make
 returns-in-Make c = subst (λ (r : Request). Prepares (Answers r c.args.text.now) c.prepare_made.result) (sym c.in-Make.is) c.prepare_made.ensures

@@ -1,4 +1,5 @@
 use Rattle.std.proofs.Common.{refl, ap, Err}
+use Rattle.hc_cmd.proofs.Finding.{long_apart, memory_apart}
 use Rattle.hc_cmd.proofs.prepared.text_of.Goals as goal
 
 pub returns-in-Ok : goal.returns-in-Ok
@@ -15,7 +16,7 @@ returns-in-Err-Failed g c =
 pub returns-in-Err-TooLong : goal.returns-in-Err-TooLong
 returns-in-Err-TooLong g c =
     let told = c.in-Err-TooLong.ensures {u = tt} in
-    (told.long (ap Err c.in-Err-TooLong.field-0-is), told.kept (λ e. cc), refl)
+    (told.long (ap Err c.in-Err-TooLong.field-0-is), told.kept (long_apart _ c.in-Err-TooLong.field-0-is), refl)
 
 pub returns-in-Err-Memory : goal.returns-in-Err-Memory
-returns-in-Err-Memory g c = (c.in-Err-Memory.ensures {u = tt}).kept (λ e. cc)
+returns-in-Err-Memory g c = (c.in-Err-Memory.ensures {u = tt}).kept (memory_apart _ c.in-Err-Memory.field-0-is)

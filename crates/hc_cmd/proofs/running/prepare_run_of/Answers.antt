@@ -1,7 +1,7 @@
 use Rattle.std.specs.Prelude.{IsSome}
 use Rattle.std.proofs.lemmas.Result.{err_from_is_err_and}
 use Rattle.hc_cmd.specs.declared.running.Run.{Run}
-use Rattle.hc_cmd.specs.Answers.{OfSource}
+use Rattle.hc_cmd.specs.Sources.{OfSource}
 use Rattle.hc_cmd.specs.Running.{Runs, told}
 use Rattle.hc_cmd.proofs.Finding.{memory_or, not_accepted, accepts, ok_found, prepared_so}
 use Rattle.hc_cmd.proofs.running.prepare_run_of.Goals as goal

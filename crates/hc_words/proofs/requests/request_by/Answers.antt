@@ -1,6 +1,6 @@
 use Rattle.std.proofs.Common.{refl, sym, subst}
 use Rattle.hc_words.specs.declared.actions.Action.{Action}
-use Rattle.hc_words.specs.declared.requests.Request.TheVariants.{Simulate, Channels, Make}
+use Rattle.hc_words.specs.declared.requests.Request.TheVariants.{Simulate, Channels, Verify, Make}
 use Rattle.hc_words.specs.Requests.{Asks}
 use Rattle.hc_words.specs.Seen.{seen}
 use Rattle.hc_words.proofs.requests.request_by.Goals as goal
@@ -14,6 +14,11 @@ pub returns-in_ok-settings-in-Channels-clause-some : goal.returns-in_ok-settings
 returns-in_ok-settings-in-Channels-clause-some c =
     let settings = c.in_ok-settings-in-Channels.settings in
     subst (λ (a : Action). Asks a (seen c.args.given.now) (Channels settings)) (sym c.in-Channels.is) (settings, c.in_ok-settings-in-Channels.ensures.some, refl)
+
+pub returns-in_ok-settings-in-Verify-clause-some : goal.returns-in_ok-settings-in-Verify-clause-some
+returns-in_ok-settings-in-Verify-clause-some c =
+    let settings = c.in_ok-settings-in-Verify.settings in
+    subst (λ (a : Action). Asks a (seen c.args.given.now) (Verify settings)) (sym c.in-Verify.is) (settings, c.in_ok-settings-in-Verify.ensures.some, refl)
 
 pub returns-in_ok-made-in-Make-clause-some : goal.returns-in_ok-made-in-Make-clause-some
 returns-in_ok-made-in-Make-clause-some c =
