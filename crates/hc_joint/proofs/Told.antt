@@ -9,37 +9,15 @@ use Rattle.hc_term.specs.Offers.{post}
 use Rattle.hc_term.specs.Posts.{sent_on, receives_on}
 use Rattle.hc_term.specs.Communication.{sent, received}
 use Rattle.hc_term.specs.Moved.{fired}
-use Rattle.hc_term.specs.Step.{posts, changed, met}
-use Rattle.hc_term.proofs.Places.{set-set_other, get-changed_other, get-set_other}
+use Rattle.hc_term.specs.Step.{posts, met}
+use Rattle.hc_term.proofs.Places.{get-set_other}
 use Rattle.hc_runs.specs.Laws.{Joins}
 use Rattle.hc_runs.proofs.Fired.{posts_meet}
-use Rattle.hc_joint.specs.declared.member.Member.{Member}
+use Rattle.hc_member.specs.declared.member.Member.{Member}
+use Rattle.hc_member.specs.States.{IsIn, AllIn}
+use Rattle.hc_member.proofs.Telling.{ShowsAll, all_told}
 use Rattle.hc_joint.specs.declared.scene.Scene.{Scene}
-use Rattle.hc_joint.specs.States.{IsIn, AllIn}
 use Rattle.hc_joint.specs.Parts.{IsTold}
-use Rattle.hc_joint.proofs.Places.{changed_sets}
-use Rattle.hc_joint.proofs.Beside.{all_but_one}
-
-module _ (f g : ProcessState → ProcessState) (qs : List ProcessState) (s r : ℕ) (a b : ProcessState)
-    (differ : s ≢ r) (s_is : slice_get qs s ≡ Some a) (r_is : slice_get qs r ≡ Some b) where
-  -- both changes set their places
-  both_changed : changed f s (changed g r qs) ≡ slice_set (slice_set qs s (f a)) r (g b)
-  both_changed =
-      changed_sets f (changed g r qs) s a (get-changed_other g qs r s (λ e. differ (sym e)) ∙ s_is)
-      ∙ ap (λ (l : List ProcessState). slice_set l s (f a)) (changed_sets g qs r b r_is)
-      ∙ set-set_other qs r s (g b) (f a) (λ e. differ (sym e))
-
-  all_told : (clock : Rational) (ms : List Member) (m n : Member) → AllIn clock ms qs →
-      IsIn s clock m (f a) → IsIn r clock n (g b) →
-      AllIn clock (slice_set (slice_set ms s m) r n) (changed f s (changed g r qs))
-  all_told clock ms m n all one other =
-      let first = all_but_one clock ms qs s m (f a) all one in
-      let both = all_but_one clock (slice_set ms s m) (slice_set qs s (f a)) r n (g b) first other in
-      subst (λ (l : List ProcessState). AllIn clock (slice_set (slice_set ms s m) r n) l) (sym both_changed) both
-
--- the member shows this, in whatever state it is
-abbrev pub ShowsAll : Member → Post → Type 0
-ShowsAll m shown = (k : ℕ) (clock : Rational) (q : ProcessState) → IsIn k clock m q → shown ≡ post clock q
 
 -- the sender was told, and then the receiver; each put on the board what it shows
 pub record HasTold (m : Meeting) (old new : Scene) (one sender two receiver : Member) (sending receiving : Post) : Type 0 where

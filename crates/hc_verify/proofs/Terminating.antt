@@ -19,26 +19,16 @@ use Rattle.hc_term.specs.Step.{all_ended}
 use Rattle.hc_term.proofs.Wanting.{active-wants}
 use Rattle.hc_order.specs.Demand.{Advances, everyone}
 use Rattle.hc_order.proofs.Ending.{halted_end_moves_are_all}
+use Rattle.hc_member.specs.Ended.{is_ended}
 use Rattle.hc_verify.specs.declared.walk.Walk.{Walk}
 use Rattle.hc_verify.specs.Stands.{IsAt}
 use Rattle.hc_verify.specs.Halting.{AreStill, AllHalt}
 use Rattle.hc_verify.specs.Following.{IsReached}
-use Rattle.hc_verify.specs.Ending.{Reaches, is_ended}
+use Rattle.hc_verify.specs.Ending.{Reaches}
 use Rattle.hc_verify.proofs.Stilling.{still_is_halted}
 use Rattle.hc_verify.proofs.Delaying.{not_idle}
 
 -- ---- a process that has ended
-
-ended_at : (clock : Rational) (s : Store) (b : Option Rational) (mark : Mark) (todo : List Stmt) →
-    is_ended (post_at clock s b mark todo).phase ≡ is_done todo
-ended_at clock s b mark [] = refl
-ended_at clock s b Going (head ∷ rest) = refl
-ended_at clock s b (Arrived left) (head ∷ rest) = refl
-
-pub ended_shown : (clock : Rational) (qs : List ProcessState) →
-    list_all (λ (p : Post). is_ended p.phase) (map (post clock) qs) ≡ list_all (λ (q : ProcessState). is_done q.todo) qs
-ended_shown clock [] = refl
-ended_shown clock (q ∷ qs) = ap₂ (λ a b. a && b) (ended_at clock q.store (bound q) q.mark q.todo) (ended_shown clock qs)
 
 done_wants : (mark : Mark) (b : Option Rational) (todo : List Stmt) → is_done todo ≡ true → wants_at mark b todo ≡ false
 done_wants mark b [] h = refl
