@@ -1,6 +1,6 @@
 -- A scene at the opening of its task.
 use Rattle.std.proofs.Common.{◌≡◌, refl, sym, ap, subst, ◌∙◌, ℕ, List, [], map, length, replicate, arith}
-use Rattle.hc_rational.specs.Words.{Rational, zero_ℚ}
+use Rattle.hc_rational.specs.Words.{zero_ℚ}
 use Rattle.hc_term.specs.declared.system.Process.{Process}
 use Rattle.hc_term.specs.declared.run.Item.{Item}
 use Rattle.hc_term.specs.Offers.{going_post}

@@ -1,5 +1,5 @@
 -- Which processes want a silent step: in a configuration, and as all processes show it.
-use Rattle.std.specs.Prelude.{ℕ, Bool, true, false, List, slice_get, Option, Some, None}
+use Rattle.std.specs.Prelude.{ℕ, Bool, false, List, slice_get, Option, Some, None}
 use Rattle.hc_term.specs.declared.model.ProcessState.{ProcessState}
 use Rattle.hc_term.specs.Process.{wants}
 pub use Rattle.hc_board.specs.Able.{shows_step, shows_step_if, shows_able, least_from}

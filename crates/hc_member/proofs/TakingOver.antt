@@ -1,7 +1,6 @@
 -- The steps of an advance, taken over by the member from which they start.
 use Rattle.std.proofs.Common.{◌≡◌, ◌<◌, sym, ap, subst, ◌∙◌, ℕ, true, length}
 use Rattle.hc_limits.specs.Limits.{most_silent_steps}
-use Rattle.hc_rational.specs.Words.{Rational}
 use Rattle.hc_term.specs.declared.model.ProcessState.{ProcessState}
 use Rattle.hc_term.specs.Event.{progress}
 use Rattle.hc_code.specs.declared.code.ProcCode.{ProcCode}

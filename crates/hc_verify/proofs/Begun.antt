@@ -1,6 +1,6 @@
 -- A walk at the opening of its task.
 use Rattle.std.proofs.Common.{◌≡◌, sym, ap, subst, ◌∙◌, ℕ, List, map, length, replicate}
-use Rattle.hc_rational.specs.Words.{Rational, zero_ℚ}
+use Rattle.hc_rational.specs.Words.{zero_ℚ}
 use Rattle.hc_term.specs.declared.system.Process.{Process}
 use Rattle.hc_term.specs.declared.task.Task.{Task}
 use Rattle.hc_term.specs.Offers.{going_post}

@@ -1,4 +1,4 @@
-use Rattle.std.proofs.Common.{rules, ◌≡◌, ◌-◌, refl, sym, subst, ◌∙◌, ℕ, length, vec_len, slice_get, Option, Some, arith}
+use Rattle.std.proofs.Common.{rules, ◌≡◌, ◌-◌, refl, sym, subst, ◌∙◌, ℕ, length, vec_len, slice_get, Some, arith}
 use Rattle.std.specs.Prelude.{◌↔◌, IsTrue}
 use Rattle.std.proofs.lemmas.Option.{slice_get_read}
 use Rattle.hc_advance.specs.Lead.{StartsAt}
