@@ -17,7 +17,7 @@ use Rattle.hc_joint.specs.Keeps.{turned}
 
 -- ---- what is kept of a process
 
--- By some table of the code they stand for the state of process number p in c.
+-- By some table of its code, what is kept stands for the state of process number p in c.
 pub record KeptOf (c : Configuration) (p : ℕ) : Type 0 where
   pub kept : Kept
   pub state : ProcessState

@@ -16,7 +16,7 @@ impl Scene {
     ghost use Rattle.hc_term.specs.Event.{progress};
     ghost use Rattle.hc_runs.specs.Turns.{event_behind};
     ghost use Rattle.hc_member.specs.declared.member.Member.{Member};
-    ghost use Rattle.hc_member.specs.Lending.{HasSteps, kept, Lends};
+    ghost use Rattle.hc_member.specs.Lending.{kept, Lends};
     ghost use Rattle.hc_joint.specs.declared.turn.Turn.TheVariants as said;
     ghost use Rattle.hc_joint.specs.Stands.{IsAt, IsSomewhere};
     ghost use Rattle.hc_joint.specs.Parts.{room, Runs, Comes};
