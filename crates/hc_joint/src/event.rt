@@ -94,7 +94,7 @@ impl Scene {
     {
         let sender = &mut self.members[meeting.sender as usize];
         sender.sent(meeting.channel);
-        self.board.post(meeting.sender, sender.post());
+        self.board.post(meeting.receiver, sender.post());
         let receiver = &mut self.members[meeting.receiver as usize];
         receiver.received(meeting.channel, meeting.value);
         self.board.post(meeting.receiver, receiver.post());
