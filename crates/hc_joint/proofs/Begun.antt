@@ -1,60 +1,16 @@
--- A scene at the opening of its task: each process has a statement, so all are going.
-use Rattle.std.proofs.Common.{◌≡◌, refl, sym, ap, ap₂, subst, ◌∙◌, ℕ, true, ◌&&◌, nat_le, List, [], ◌∷◌, map, length, replicate, slice_get, Some, arith}
-use Rattle.std.specs.List.{list_all}
-use Rattle.std.proofs.lemmas.Bool.{and_parts, leb-true}
-use Rattle.std.proofs.lemmas.List.{length-map}
-use Rattle.hc_limits.specs.Limits.{most_variables}
-use Rattle.hc_rational.specs.Words.{Rational, zero_ℚ}
-use Rattle.hc_term.specs.declared.stmt.Stmt.{Stmt}
+-- A scene at the opening of its task.
+use Rattle.std.proofs.Common.{◌≡◌, refl, sym, ap, subst, ◌∙◌, ℕ, List, [], map, length, replicate, arith}
+use Rattle.hc_rational.specs.Words.{zero_ℚ}
 use Rattle.hc_term.specs.declared.system.Process.{Process}
-use Rattle.hc_term.specs.declared.post.Post.{Post}
 use Rattle.hc_term.specs.declared.run.Item.{Item}
-use Rattle.hc_term.specs.declared.model.Mark.TheVariants.{Going}
-use Rattle.hc_term.specs.declared.model.ProcessState.{ProcessState}
-use Rattle.hc_term.specs.Value.{Store}
-use Rattle.hc_term.specs.Rules.{is_stmt, is_process}
-use Rattle.hc_term.specs.Offers.{going_post, post}
+use Rattle.hc_term.specs.Offers.{going_post}
 use Rattle.hc_term.specs.Step.{opening_of, opening, Leads}
 use Rattle.hc_runs.proofs.Parts.{all_processes}
-use Rattle.hc_joint.specs.declared.member.Member.{Member}
+use Rattle.hc_member.specs.States.{AllIn, AllOpen}
+use Rattle.hc_member.proofs.Shown.{all_going}
+use Rattle.hc_member.proofs.Opened.{opened_in}
 use Rattle.hc_joint.specs.declared.scene.Scene.{Scene}
-use Rattle.hc_joint.specs.States.{IsIn, AllIn, AllOpen}
 use Rattle.hc_joint.specs.Stands.{IsAt}
-use Rattle.hc_joint.proofs.Places.{beside}
-use Rattle.hc_joint.proofs.Moves.{mapped_at}
-
--- ---- what all show
-
-body_shows : (clock : Rational) (s : Store) (body : List Stmt) → nat_le 1 (length body) ≡ true →
-    post clock (record { todo = body; store = s; choices = 0; mark = Going }) ≡ going_post
-body_shows clock s [] h = absurd (omega (arith, leb-true 1 0 h))
-body_shows clock s (head ∷ rest) h = refl
-
-all_going : (clock : Rational) (channels : ℕ) (ps : List Process) → list_all (is_process channels) ps ≡ true →
-    map (post clock) (map opening_of ps) ≡ replicate (length ps) going_post
-all_going clock channels [] h = refl
-all_going clock channels (p ∷ ps) h =
-    let n = length p.variables in
-    let parts = and_parts (is_process channels p) (list_all (is_process channels) ps) h in
-    let few = (and_parts (nat_le n most_variables && nat_le 1 (length p.body)) (list_all (is_stmt channels n) p.body) parts.0).0 in
-    let some = (and_parts (nat_le n most_variables) (nat_le 1 (length p.body)) few).1 in
-    ap₂ (λ (q : Post) (qs : List Post). q ∷ qs) (body_shows clock (opening_of p).store p.body some) (all_going clock channels ps parts.1)
-
--- ---- the members
-
-opened_in : (clock : Rational) (ps : List Process) (ms : List Member) → AllOpen ps ms → AllIn clock ms (map opening_of ps)
-opened_in clock ps ms all = record {
-  counted = all.counted ∙ sym (length-map ps opening_of);
-  each = λ k m q at there. by_place k m q at there;
-} where
-  by_place : (k : ℕ) (m : Member) (q : ProcessState) → slice_get ms k ≡ Some m → slice_get (map opening_of ps) k ≡ Some q → IsIn k clock m q
-  by_place k m q at there =
-      let p = beside ms ps k m all.counted at in
-      let to : Some (opening_of p.0) ≡ Some q = sym (mapped_at opening_of ps k p.0 p.1) ∙ there in
-      let same : opening_of p.0 ≡ q = cc in
-      subst (λ (x : ProcessState). IsIn k clock m x) same (all.each k m p.0 clock at p.1)
-
--- ---- the scene
 
 pub is_at_opening : (s : Scene) (ps : List Process) (channels : ℕ) → ps ≡ s.task.system.processes → channels ≡ length s.task.system.channels →
     s.history.items ≡ [] → AllOpen ps s.members.items → s.board ≡ record { posts = replicate (length ps) going_post; channels = channels } →

@@ -5,8 +5,9 @@ use Rattle.std.proofs.lemmas.Bool.{leb-true, leb-false}
 use Rattle.std.proofs.lemmas.Option.{none-some}
 use Rattle.hc_rational.specs.Words.{Rational}
 use Rattle.hc_advance.specs.Lead.{Lead, StartsAt, steps_of}
+use Rattle.hc_member.specs.Lending.{Kept, HasSteps}
 use Rattle.hc_joint.specs.Judging.{by_room, judged}
-use Rattle.hc_joint.specs.Handed.{Kept, HasSteps, Judges}
+use Rattle.hc_joint.specs.Handed.{Judges}
 
 module _ (k : Kept) (clock : Rational) (seed left : ℕ) (a : Lead) where
   none_by_start : (steps : ℕ) → (IsTrue false ↔ StartsAt a k.code k.local clock seed) → HasSteps k clock seed a steps → ⊥

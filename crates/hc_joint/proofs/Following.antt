@@ -8,8 +8,8 @@ use Rattle.hc_term.specs.declared.model.Configuration.{Configuration}
 use Rattle.hc_term.specs.Step.{opening, posts, Leads}
 use Rattle.hc_term.specs.Event.{Event, event_after}
 use Rattle.hc_term.proofs.Pieces.{leads_on}
+use Rattle.hc_member.specs.States.{AllIn}
 use Rattle.hc_joint.specs.declared.scene.Scene.{Scene}
-use Rattle.hc_joint.specs.States.{AllIn}
 use Rattle.hc_joint.specs.Stands.{IsAt}
 use Rattle.hc_joint.specs.Parts.{room, Follows, Comes}
 

@@ -22,13 +22,13 @@ use Rattle.hc_runs.proofs.Resting.{delays_end}
 use Rattle.hc_board.specs.declared.delayed.Delayed.{Delayed}
 use Rattle.hc_board.specs.declared.delayed.Delayed.TheVariants as said
 use Rattle.hc_board.specs.Answers.{answer_of}
+use Rattle.hc_member.specs.declared.member.Member.{Member}
+use Rattle.hc_member.specs.States.{AllIn}
+use Rattle.hc_member.proofs.Showing.{least_shown}
 use Rattle.hc_joint.specs.Able.{least_from}
-use Rattle.hc_joint.specs.declared.member.Member.{Member}
 use Rattle.hc_joint.specs.declared.scene.Scene.{Scene}
-use Rattle.hc_joint.specs.States.{AllIn}
 use Rattle.hc_joint.specs.Stands.{IsAt, IsPassing}
 use Rattle.hc_joint.specs.Parts.{room, Follows, Comes}
-use Rattle.hc_joint.proofs.Showing.{least_shown}
 use Rattle.hc_joint.proofs.Passed.{passed_item}
 
 -- ---- what a board's answer says

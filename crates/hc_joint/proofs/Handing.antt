@@ -1,5 +1,5 @@
 -- What a member took over from an advance is the stretch of its process in the event.
-use Rattle.std.proofs.Common.{◌≡◌, sym, ap, subst, ◌∙◌, ℕ, ◌≤◌, List, ◌++◌, length, min, slice_get, slice_set, Some, arith}
+use Rattle.std.proofs.Common.{◌≡◌, sym, subst, ◌∙◌, ℕ, ◌≤◌, ◌++◌, length, min, slice_get, slice_set, Some, arith}
 use Rattle.hc_limits.specs.Limits.{most_silent_steps}
 use Rattle.hc_rational.specs.Words.{Rational}
 use Rattle.hc_term.specs.declared.post.Post.{Post}
@@ -10,15 +10,15 @@ use Rattle.hc_term.specs.Event.{progress, silent_items}
 use Rattle.hc_step.specs.declared.stretch.Stretch.{Stretch}
 use Rattle.hc_step.specs.Represents.{logs_of}
 use Rattle.hc_advance.specs.Lead.{Lead, StartsAt, steps_of}
-use Rattle.hc_joint.specs.declared.member.Member.{Member}
+use Rattle.hc_member.specs.declared.member.Member.{Member}
+use Rattle.hc_member.specs.States.{IsIn, Progresses}
+use Rattle.hc_member.specs.Lending.{kept}
 use Rattle.hc_joint.specs.declared.scene.Scene.{Scene}
 use Rattle.hc_joint.specs.declared.turn.Turn.TheVariants as said
-use Rattle.hc_joint.specs.States.{IsIn, Progresses}
 use Rattle.hc_joint.specs.Stands.{IsAt}
 use Rattle.hc_joint.specs.Parts.{room, Runs}
 use Rattle.hc_joint.specs.Handed.{Judges}
-use Rattle.hc_joint.specs.Lending.{kept}
-use Rattle.hc_joint.proofs.Running.{TakesAll, counted_by, HasRun, runs_by}
+use Rattle.hc_joint.proofs.Running.{TakesAll, counted_by, runs_by}
 use Rattle.hc_joint.proofs.Taking.{takes_by_limit, few_taken}
 
 -- the steps of the advance may be taken, and its member took them

@@ -8,21 +8,21 @@ use Rattle.hc_term.specs.Process.{wants}
 use Rattle.hc_term.specs.Event.{Event}
 use Rattle.hc_runs.specs.Turns.{WantsAt, event_behind}
 use Rattle.hc_advance.specs.Lead.{Lead}
-use Rattle.hc_joint.specs.declared.member.Member.{Member}
+use Rattle.hc_member.specs.declared.member.Member.{Member}
+use Rattle.hc_member.specs.States.{IsIn}
+use Rattle.hc_member.specs.Lending.{kept, Lends}
+use Rattle.hc_member.proofs.Places.{beside}
 use Rattle.hc_joint.specs.declared.scene.Scene.{Scene}
 use Rattle.hc_joint.specs.declared.turn.Turn.{Turn}
 use Rattle.hc_joint.specs.declared.turn.Turn.TheVariants as turn
 use Rattle.hc_joint.specs.Able.{is_able, wants_if, shows_able}
 use Rattle.hc_joint.specs.Seen.{Seen}
-use Rattle.hc_joint.specs.States.{IsIn}
 use Rattle.hc_joint.specs.Stands.{IsAt}
 use Rattle.hc_joint.specs.Parts.{room, Comes}
 use Rattle.hc_joint.specs.Keeps.{IsMade, IsReached, seen}
 use Rattle.hc_joint.specs.Judging.{is_made, again}
 use Rattle.hc_joint.specs.Handed.{KeptOf, MayTurn, Leases, Judges, Answers, state_after}
-use Rattle.hc_joint.specs.Lending.{kept, Lends}
 use Rattle.hc_joint.proofs.Once.{reached_once}
-use Rattle.hc_joint.proofs.Places.{beside}
 use Rattle.hc_joint.proofs.Halting.{none_is}
 use Rattle.hc_joint.proofs.Kept.{able_seen}
 use Rattle.hc_joint.proofs.NextTurn.{made_by_turn, seen_by_turn}

@@ -1,7 +1,3 @@
-pub mod Places
-pub mod Beside
-pub mod Opened
-pub mod Moves
 pub mod Once
 pub mod Stretched
 pub mod Showing

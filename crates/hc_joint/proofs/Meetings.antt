@@ -12,8 +12,8 @@ use Rattle.hc_term.specs.Step.{ready, met}
 use Rattle.hc_term.proofs.Ready.{ready-steps}
 use Rattle.hc_runs.specs.Laws.{Joins}
 use Rattle.hc_runs.proofs.Fired.{ready_joins}
+use Rattle.hc_member.specs.States.{AllIn}
 use Rattle.hc_joint.specs.declared.scene.Scene.{Scene}
-use Rattle.hc_joint.specs.States.{AllIn}
 use Rattle.hc_joint.specs.Stands.{IsAt}
 use Rattle.hc_joint.specs.Parts.{room, Follows, IsTold, Meets}
 use Rattle.hc_joint.proofs.Following.{becomes-follows}

@@ -1,62 +1,39 @@
 -- What a delay makes of a scene whose board has moved already.
-use Rattle.std.proofs.Common.{◌≡◌, ◌<◌, refl, sym, ap, subst, ◌∙◌, ℕ, Bool, true, ◌&&◌, List, [], ◌∷◌, ◌++◌, map, length, take, arith, length-append}
+use Rattle.std.proofs.Common.{◌≡◌, ◌<◌, refl, sym, ap, subst, ◌∙◌, true, List, [], ◌∷◌, ◌++◌, map, length, arith, length-append}
 use Rattle.std.specs.List.{list_all}
-use Rattle.std.proofs.Math.Seq.{take-append_seam}
-use Rattle.std.proofs.lemmas.Bool.{and_parts}
-use Rattle.std.proofs.lemmas.List.Folds.{list_all-map}
 use Rattle.hc_rational.specs.Words.{Rational, zero_ℚ, ◌+ℚ◌, ◌≤ℚ◌, fits}
 use Rattle.hc_term.specs.declared.task.Task.{Task}
-use Rattle.hc_term.specs.declared.post.Post.{Post}
 use Rattle.hc_term.specs.declared.run.Step.TheVariants.{Delay}
 use Rattle.hc_term.specs.declared.run.Item.{Item}
 use Rattle.hc_term.specs.declared.model.Configuration.{Configuration}
 use Rattle.hc_term.specs.Communication.{moved}
-use Rattle.hc_term.specs.Moved.{moved_post}
 use Rattle.hc_term.specs.Posts.{post_fits}
-use Rattle.hc_term.specs.Step.{opening, posts, delayed, Leads}
+use Rattle.hc_term.specs.Step.{opening, delayed, Leads}
 use Rattle.hc_term.specs.Together.{is_within}
 use Rattle.hc_term.proofs.Pieces.{leads_on}
-use Rattle.hc_runs.proofs.Parts.{runs_keep_rules}
-use Rattle.hc_runs.proofs.Taking.{delay_is_fit}
-use Rattle.hc_runs.proofs.Within.{all_posts_move}
-use Rattle.hc_joint.specs.declared.member.Member.{Member}
+use Rattle.hc_member.specs.declared.member.Member.{Member}
+use Rattle.hc_member.specs.States.{AllIn}
+use Rattle.hc_member.proofs.Passing.{later_fits, passes_forward, posts_moved, all_fit, all_within}
 use Rattle.hc_joint.specs.declared.scene.Scene.{Scene}
-use Rattle.hc_joint.specs.States.{AllIn}
 use Rattle.hc_joint.specs.Stands.{IsPassing}
 use Rattle.hc_joint.specs.Parts.{room, Follows}
-use Rattle.hc_joint.proofs.Beside.{members_show}
-
--- a list that is written back over one of its length
-pub written_back : {A : Type 0} (n : ℕ) (ws rest : List A) → length ws ≡ n → take n (ws ++ rest) ≡ ws
-written_back n ws rest e = ap (λ (k : ℕ). take k (ws ++ rest)) (sym e) ∙ take-append_seam ws rest
 
 -- the item of a delay
 abbrev pub passed_item : Rational → Rational → Item
 passed_item clock by = record { at = clock; step = Delay by }
 
 module _ (s : Scene) (c : Configuration) (by : Rational) (p : IsPassing s c by) where
-  fitting : (((fits by && fits (c.clock +ℚ by)) ≡ true) × (list_all (post_fits by) (posts c) ≡ true))
-  fitting = and_parts (fits by && fits (c.clock +ℚ by)) (list_all (post_fits by) (posts c)) (delay_is_fit s.task c by p.passes)
-
-  moving : (zero_ℚ ≤ℚ by) × (list_all (λ (q : Post). is_within by q.bound) (posts c) ≡ true) × (posts (delayed by c) ≡ map (moved_post by) (posts c))
-  moving = all_posts_move s.task c by (runs_keep_rules s.task s.history.items c p.leads).1 p.passes
-
   pub end_fits : fits (s.clock +ℚ by) ≡ true
-  end_fits = ap (λ (k : Rational). fits (k +ℚ by)) p.clock ∙ (and_parts (fits by) (fits (c.clock +ℚ by)) fitting.0).1
+  end_fits = later_fits s.task s.history.items c by p.leads p.passes s.clock p.clock
 
   pub from_zero : zero_ℚ ≤ℚ by
-  from_zero = moving.0
-
-  shown_by : (test : Post → Bool) → list_all test (posts c) ≡ true → list_all (λ (m : Member). test m.local.post) s.members.items ≡ true
-  shown_by test h =
-      sym (list_all-map test (λ (m : Member). m.local.post) s.members.items)
-      ∙ ap (λ (l : List Post). list_all test l) (members_show c.clock s.members.items c.processes p.members) ∙ h
+  from_zero = passes_forward s.task s.history.items c by p.leads p.passes
 
   pub members_fit : list_all (λ (m : Member). post_fits by m.local.post) s.members.items ≡ true
-  members_fit = shown_by (post_fits by) fitting.1
+  members_fit = all_fit s.task s.history.items c by p.leads p.passes s.members.items p.members
 
   pub members_within : list_all (λ (m : Member). is_within by m.local.post.bound) s.members.items ≡ true
-  members_within = shown_by (λ (q : Post). is_within by q.bound) moving.1
+  members_within = all_within s.task s.history.items c by p.leads p.passes s.members.items p.members
 
   -- with the members moved, the item behind the history and the clock set, it stands for the configuration after the delay
   module _ (new : Scene) (same : new.task ≡ s.task) (items : new.history.items ≡ s.history.items ++ passed_item s.clock by ∷ [])
@@ -83,7 +60,7 @@ module _ (s : Scene) (c : Configuration) (by : Rational) (p : IsPassing s c by) 
         leads = leads_new;
         within = omega (arith, left, ap length items, length-append s.history.items (passed_item s.clock by ∷ []), ap (λ (t : Task). t.limit) same);
         members = members;
-        shown = ap (λ b. b.posts) board ∙ p.shown ∙ sym moving.2;
+        shown = ap (λ b. b.posts) board ∙ p.shown ∙ sym (posts_moved s.task s.history.items c by p.leads p.passes);
         channels = ap (λ b. b.channels) board ∙ p.channels ∙ ap (λ (t : Task). length t.system.channels) (sym same);
         clock = clock ∙ ap (λ (k : Rational). k +ℚ by) p.clock;
       };

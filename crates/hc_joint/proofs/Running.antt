@@ -11,14 +11,14 @@ use Rattle.hc_term.proofs.EventRuns.{length-silent_items}
 use Rattle.hc_term.proofs.Stretches.{progress-stretches}
 use Rattle.hc_step.specs.declared.stretch.Stretch.{Stretch}
 use Rattle.hc_step.specs.Represents.{logs_of}
-use Rattle.hc_joint.specs.declared.member.Member.{Member}
+use Rattle.hc_member.specs.declared.member.Member.{Member}
+use Rattle.hc_member.specs.States.{IsIn, AllIn, Progresses}
+use Rattle.hc_member.proofs.Beside.{all_but_one}
+use Rattle.hc_member.proofs.Places.{beside}
+use Rattle.hc_member.proofs.Shown.{replaced_shown}
 use Rattle.hc_joint.specs.declared.scene.Scene.{Scene}
-use Rattle.hc_joint.specs.States.{IsIn, AllIn, Progresses}
 use Rattle.hc_joint.specs.Stands.{IsAt}
 use Rattle.hc_joint.specs.Parts.{room, Runs}
-use Rattle.hc_joint.proofs.Beside.{all_but_one}
-use Rattle.hc_joint.proofs.Places.{beside}
-use Rattle.hc_joint.proofs.Stretched.{replaced_shown}
 use Rattle.hc_joint.proofs.Following.{becomes-follows}
 
 -- the stretch took what the definition has, from each state in which the member was

@@ -1,14 +1,9 @@
 -- The items of a stretch.
-use Rattle.std.proofs.Common.{◌≡◌, refl, sym, ap, ◌∙◌, ℕ, zero, suc, ◌+◌, List, [], ◌∷◌, ◌++◌, map, replicate, slice_set, Option, None, add-one}
+use Rattle.std.proofs.Common.{◌≡◌, refl, sym, ap, ◌∙◌, ℕ, zero, suc, ◌+◌, List, [], ◌∷◌, ◌++◌, replicate, Option, None, add-one}
 use Rattle.std.proofs.lemmas.List.{append_assoc}
 use Rattle.hc_rational.specs.Words.{Rational}
 use Rattle.hc_term.specs.declared.run.Step.TheVariants.{Silent}
 use Rattle.hc_term.specs.declared.run.Item.{Item}
-use Rattle.hc_term.specs.declared.post.Post.{Post}
-use Rattle.hc_term.specs.declared.model.ProcessState.{ProcessState}
-use Rattle.hc_term.specs.declared.model.Configuration.{Configuration}
-use Rattle.hc_term.specs.Offers.{post}
-use Rattle.hc_term.specs.Step.{posts, replaced}
 use Rattle.hc_term.specs.Event.{silent_items}
 
 module _ (clock : Rational) (p : ℕ) where
@@ -42,15 +37,3 @@ quiet-push clock p before now new n h e =
     ap (λ (k : ℕ). replicate k nothing) (add-one n) ∙ replicate-push n nothing in
     items-push clock p before now new nothing (replicate n nothing) h e
     ∙ ap (λ (ls : List (Option Rational)). before ++ silent_items clock p ls) (sym one)
-
--- ---- what is shown after a stretch
-
-set_shown : (clock : Rational) (qs : List ProcessState) (p : ℕ) (q : ProcessState) →
-    map (post clock) (slice_set qs p q) ≡ slice_set (map (post clock) qs) p (post clock q)
-set_shown clock [] p q = refl
-set_shown clock (r ∷ qs) zero q = refl
-set_shown clock (r ∷ qs) (suc p) q = ap (λ (l : List Post). post clock r ∷ l) (set_shown clock qs p q)
-
-pub replaced_shown : (c : Configuration) (p : ℕ) (q : ProcessState) →
-    posts (replaced c p q) ≡ slice_set (posts c) p (post c.clock q)
-replaced_shown c p q = set_shown c.clock c.processes p q

@@ -1,10 +1,10 @@
 -- A stretch that took few steps is the same where no more were allowed.
-use Rattle.std.proofs.Common.{◌≡◌, refl, ap, ℕ, zero, suc, ◌≤◌, min, length, Option, Some, None, arith}
+use Rattle.std.proofs.Common.{◌≡◌, refl, ap, ℕ, zero, suc, ◌≤◌, min, length, Some, None, arith}
 use Rattle.hc_limits.specs.Limits.{most_silent_steps}
 use Rattle.hc_rational.specs.Words.{Rational}
 use Rattle.hc_term.specs.declared.model.ProcessState.{ProcessState}
 use Rattle.hc_term.specs.Silent.{Outcome, Idle, Unfit, Did, silent}
-use Rattle.hc_term.specs.Event.{Progress, progress, progress_by, spent_by, with_silent}
+use Rattle.hc_term.specs.Event.{progress, progress_by, spent_by, with_silent}
 
 module _ (seed p : ℕ) (clock : Rational) where
   few_by : (n : ℕ) (q : ProcessState) (o : Outcome) → ((next : ProcessState) → length (progress n seed p clock next).logs ≤ n) →

@@ -1,7 +1,5 @@
--- Which processes want a silent step, and which have ended: in a configuration, and as all processes show it.
-use Rattle.std.specs.Prelude.{ℕ, Bool, true, false, List, slice_get, Option, Some, None}
-use Rattle.hc_term.specs.declared.post.Phase.{Phase}
-use Rattle.hc_term.specs.declared.post.Phase.TheVariants as phase
+-- Which processes want a silent step: in a configuration, and as all processes show it.
+use Rattle.std.specs.Prelude.{ℕ, Bool, false, List, slice_get, Option, Some, None}
 use Rattle.hc_term.specs.declared.model.ProcessState.{ProcessState}
 use Rattle.hc_term.specs.Process.{wants}
 pub use Rattle.hc_board.specs.Able.{shows_step, shows_step_if, shows_able, least_from}
@@ -13,9 +11,3 @@ wants_if (Some q) = wants q
 -- whether there is a process of this number, and it wants a silent step
 abbrev pub is_able : ℕ → List ProcessState → Bool
 is_able p qs = wants_if (slice_get qs p)
-
--- ---- as it is shown
-
-abbrev pub is_ended : Phase → Bool
-is_ended phase.Ended = true
-is_ended _ = false

@@ -1,15 +1,14 @@
 -- Turns whose silent steps may have been worked out beside the joint: what is lent for them, what such a turn answers, and
 -- what it does.
-use Rattle.std.specs.Prelude.{◌≡◌, ◌≢◌, ◌<◌, ◌≤◌, ◌⊎◌, ℕ, ◌+◌, ◌-◌, Bool, true, false, List, length, slice_get, Option, Some, None}
+use Rattle.std.specs.Prelude.{◌≡◌, ◌≢◌, ◌<◌, ◌≤◌, ◌⊎◌, ℕ, ◌+◌, ◌-◌, Bool, true, false, length, slice_get, Some, None}
 use Rattle.hc_rational.specs.Words.{Rational}
 use Rattle.hc_term.specs.declared.model.ProcessState.{ProcessState}
 use Rattle.hc_term.specs.declared.model.Configuration.{Configuration}
 use Rattle.hc_term.specs.Event.{Event}
-use Rattle.hc_code.specs.declared.code.ProcCode.{ProcCode}
 use Rattle.hc_code.specs.Stands.{Table, AllAgree}
-use Rattle.hc_step.specs.declared.local.Local.{Local}
 use Rattle.hc_step.specs.Represents.{Represents}
-use Rattle.hc_advance.specs.Lead.{Lead, StartsAt, begun, steps_of}
+use Rattle.hc_advance.specs.Lead.{Lead, begun}
+use Rattle.hc_member.specs.Lending.{Kept, HasSteps}
 use Rattle.hc_joint.specs.declared.turn.Turn.{Turn}
 use Rattle.hc_joint.specs.declared.turn.Turn.TheVariants as turn
 use Rattle.hc_joint.specs.Able.{is_able}
@@ -18,12 +17,7 @@ use Rattle.hc_joint.specs.Keeps.{turned}
 
 -- ---- what is kept of a process
 
--- its code, and what it keeps between its steps
-pub record Kept : Type 0 where
-  pub code : ProcCode
-  pub local : Local
-
--- By some table of the code they stand for the state of process number p in c.
+-- By some table of its code, what is kept stands for the state of process number p in c.
 pub record KeptOf (c : Configuration) (p : ℕ) : Type 0 where
   pub kept : Kept
   pub state : ProcessState
@@ -49,11 +43,6 @@ Leases s p c old new false =
     (new ≡ old) × ((s.stop ≢ None) ⊎ (is_able p c.processes ≡ false) ⊎ ((k : KeptOf c p) × (old.code ≢ k.kept.code)))
 
 -- ---- what a turn answers
-
--- the advance starts from what is kept, at this clock and with this seed, and is worked, with so many steps
-pub record HasSteps (k : Kept) (clock : Rational) (seed : ℕ) (a : Lead) (steps : ℕ) : Type 0 where
-  pub starts : StartsAt a k.code k.local clock seed
-  pub steps_are : steps_of a.worked ≡ Some steps
 
 -- what comes of its steps, where so many are left to the limit
 abbrev pub Judges : Kept → Rational → ℕ → ℕ → Lead → Turn → Type 0

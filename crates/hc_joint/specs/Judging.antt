@@ -1,5 +1,5 @@
 -- What a turn answers, by what is known of its advance.
-use Rattle.std.specs.Prelude.{ℕ, Bool, true, false, if◌then◌else◌, nat_le, Option, Some, None}
+use Rattle.std.specs.Prelude.{ℕ, Bool, true, false, nat_le, Option, Some, None}
 use Rattle.hc_joint.specs.declared.turn.Turn.{Turn}
 use Rattle.hc_joint.specs.declared.turn.Turn.TheVariants as turn
 

@@ -1,9 +1,7 @@
 pub mod Seen
 pub mod Able
-pub mod States
 pub mod Stands
 pub mod Parts
 pub mod Keeps
 pub mod Judging
 pub mod Handed
-pub mod Lending

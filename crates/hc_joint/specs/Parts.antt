@@ -9,8 +9,8 @@ use Rattle.hc_term.specs.declared.model.Configuration.{Configuration}
 use Rattle.hc_term.specs.Moved.{fired}
 use Rattle.hc_term.specs.Step.{posts, replaced, met}
 use Rattle.hc_term.specs.Event.{Progress, Event, silent_items}
+use Rattle.hc_member.specs.States.{AllIn}
 use Rattle.hc_joint.specs.declared.scene.Scene.{Scene}
-use Rattle.hc_joint.specs.States.{AllIn}
 use Rattle.hc_joint.specs.Stands.{IsAt}
 
 -- how many steps are left to the limit

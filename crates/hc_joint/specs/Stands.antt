@@ -5,8 +5,8 @@ use Rattle.hc_term.specs.declared.model.Configuration.{Configuration}
 use Rattle.hc_term.specs.Posts.{Took}
 use Rattle.hc_term.specs.Moved.{moved_post}
 use Rattle.hc_term.specs.Step.{opening, posts, passing, Leads}
+use Rattle.hc_member.specs.States.{AllIn}
 use Rattle.hc_joint.specs.declared.scene.Scene.{Scene}
-use Rattle.hc_joint.specs.States.{AllIn}
 
 -- The members, the board and the clock stand for the configuration c, to which the history leads from the opening of the
 -- task.

@@ -2,11 +2,10 @@
 
 ghost use Rattle.std.specs.Prelude.{◌≡◌};
 
-use crate::members::move_all;
 use crate::scene::Scene;
-use crate::shown::are_ended;
 use hc_board::Delayed;
 use hc_frac::Frac;
+use hc_member::{are_ended, move_all};
 use hc_term::{Item, Step, Stop};
 
 impl Scene {

@@ -61,7 +61,7 @@ impl Scene {
     ghost use Rattle.hc_term.specs.Event.{progress, meetings, second_part};
     ghost use Rattle.hc_runs.specs.Turns.{event_behind};
     ghost use Rattle.hc_runs.specs.Laws.{Joins};
-    ghost use Rattle.hc_joint.specs.States.{AllIn};
+    ghost use Rattle.hc_member.specs.States.{AllIn};
     ghost use Rattle.hc_joint.specs.Stands.{IsAt, IsSomewhere};
     ghost use Rattle.hc_joint.specs.Parts.{room, Runs, IsTold, Meets, Comes};
 

@@ -15,12 +15,12 @@ impl Scene {
     ghost use Rattle.hc_term.specs.declared.model.Configuration.{Configuration};
     ghost use Rattle.hc_term.specs.Event.{progress};
     ghost use Rattle.hc_runs.specs.Turns.{event_behind};
-    ghost use Rattle.hc_joint.specs.declared.member.Member.{Member};
+    ghost use Rattle.hc_member.specs.declared.member.Member.{Member};
+    ghost use Rattle.hc_member.specs.Lending.{kept, Lends};
     ghost use Rattle.hc_joint.specs.declared.turn.Turn.TheVariants as said;
     ghost use Rattle.hc_joint.specs.Stands.{IsAt, IsSomewhere};
     ghost use Rattle.hc_joint.specs.Parts.{room, Runs, Comes};
-    ghost use Rattle.hc_joint.specs.Handed.{HasSteps, Judges};
-    ghost use Rattle.hc_joint.specs.Lending.{kept, Lends};
+    ghost use Rattle.hc_joint.specs.Handed.{Judges};
 
     /// Lends to the advance what is kept of the process, if it has the same code.
     pub(crate) fn lend(&self, process: u32, advance: &mut Advance) -> bool

@@ -5,10 +5,7 @@ mod delay;
 mod event;
 mod handed;
 mod joint;
-mod member;
-mod members;
 mod scene;
-mod shown;
 mod turn;
 
 pub use joint::Joint;

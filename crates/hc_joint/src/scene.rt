@@ -3,10 +3,9 @@
 ghost use Rattle.std.specs.Prelude.{◌≤◌, length, vec_capacity};
 ghost use Rattle.hc_limits.specs.Limits.{most_processes};
 
-use crate::member::Member;
-use crate::members::open_all;
 use hc_board::Board;
 use hc_frac::Frac;
+use hc_member::{Member, open_all};
 use hc_term::{Item, Task};
 use std::alloc::{AllocError, Global};
 

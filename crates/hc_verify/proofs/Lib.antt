@@ -1,6 +1,5 @@
 pub mod Along
 pub mod Begun
-pub mod Beside
 pub mod BothHalting
 pub mod Counted
 pub mod Delaying
@@ -11,16 +10,11 @@ pub mod LineNamed
 pub mod LineTexts
 pub mod Logging
 pub mod MeetingLine
-pub mod Moves
 pub mod Named
 pub mod OneName
-pub mod Opened
 pub mod Overflowing
 pub mod Passed
-pub mod Places
 pub mod Running
-pub mod Showing
-pub mod Shows
 pub mod Spending
 pub mod StandingStill
 pub mod Stilling

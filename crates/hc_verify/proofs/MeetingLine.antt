@@ -26,12 +26,12 @@ use Rattle.hc_order.proofs.Ends.{PassesAt, pass_both, pass_once, joined}
 use Rattle.hc_order.proofs.Stroll.{all_of, all_stay}
 use Rattle.hc_order.proofs.Paths.{demand-path, advance-path, path_then}
 use Rattle.hc_order.proofs.Advancing.{advances_one, advances_add, moves_are_needed, halted_moves_are_all}
+use Rattle.hc_member.proofs.Places.{mapped_at}
 use Rattle.hc_verify.specs.declared.walk.Walk.{Walk}
 use Rattle.hc_verify.specs.Stands.{IsAt}
 use Rattle.hc_verify.specs.Halting.{HasNoStep}
 use Rattle.hc_verify.specs.Communicating.{IsBetweenEnds, HaveHalted, BothHalt, IsMeetingOn, IsOffered}
 use Rattle.hc_verify.specs.Following.{IsReached, Followed}
-use Rattle.hc_verify.proofs.Moves.{mapped_at}
 use Rattle.hc_verify.proofs.Counted.{all_there}
 use Rattle.hc_verify.proofs.Delaying.{not_idle}
 use Rattle.hc_verify.proofs.Logging.{is_there, same_number}

@@ -9,12 +9,12 @@ use Rattle.hc_term.specs.Offers.{post}
 use Rattle.hc_term.specs.Step.{posts}
 use Rattle.hc_term.specs.Event.{progress}
 use Rattle.hc_step.specs.declared.stretch.Stretch.{Stretch}
-use Rattle.hc_verify.specs.declared.member.Member.{Member}
+use Rattle.hc_member.specs.declared.member.Member.{Member}
+use Rattle.hc_member.specs.States.{IsIn, AllIn, Progresses}
+use Rattle.hc_member.proofs.Beside.{all_but_one}
+use Rattle.hc_member.proofs.Shown.{replaced_shown}
 use Rattle.hc_verify.specs.declared.walk.Walk.{Walk}
-use Rattle.hc_verify.specs.States.{IsIn, AllIn, Progresses}
 use Rattle.hc_verify.specs.Stands.{IsAt, Runs}
-use Rattle.hc_verify.proofs.Beside.{all_but_one}
-use Rattle.hc_verify.proofs.Shows.{replaced_shown}
 
 -- the stretch of process p, its member before and after it, and what the member shows then
 pub record HasRun (old new : Walk) (p most seed : ℕ) (st : Stretch) (m after : Member) (shown : Post) : Type 0 where

@@ -18,11 +18,11 @@ use Rattle.hc_order.specs.Laws.{EndsAfterStroll}
 use Rattle.hc_order.proofs.Stroll.{all_stay}
 use Rattle.hc_order.proofs.Loop.{stretch_is_stroll}
 use Rattle.hc_order.proofs.Advancing.{advances_one, advances_add, no_more_moves}
+use Rattle.hc_member.proofs.Places.{is_set}
 use Rattle.hc_verify.specs.declared.walk.Walk.{Walk}
 use Rattle.hc_verify.specs.Stands.{IsAt, Runs}
 use Rattle.hc_verify.specs.Following.{IsReached}
 use Rattle.hc_verify.specs.Ending.{ReachesLimit, Spends, AllSpend, invisible_steps}
-use Rattle.hc_verify.proofs.Places.{is_set}
 use Rattle.hc_verify.proofs.Logging.{is_there, same_number}
 
 -- process number p has no invisible step in this state

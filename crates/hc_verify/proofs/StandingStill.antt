@@ -23,15 +23,15 @@ use Rattle.hc_order.specs.Demand.{Movers, Advances, AreHalted, everyone}
 use Rattle.hc_order.specs.Verified.{asked_at_stop}
 use Rattle.hc_order.proofs.OneWay.{resting}
 use Rattle.hc_order.proofs.Ending.{halted_end_moves_are_all}
+use Rattle.hc_member.specs.Ended.{is_ended}
+use Rattle.hc_member.proofs.Showing.{least_shown, ended_shown}
 use Rattle.hc_verify.specs.declared.walk.Walk.{Walk}
 use Rattle.hc_verify.specs.Stands.{IsAt}
 use Rattle.hc_verify.specs.Halting.{AreStill, AllHalt}
 use Rattle.hc_verify.specs.Following.{IsReached}
-use Rattle.hc_verify.specs.Ending.{Reaches, is_ended, answered, is_of_time, stops_time}
+use Rattle.hc_verify.specs.Ending.{Reaches, answered, is_of_time, stops_time}
 use Rattle.hc_verify.proofs.Stilling.{still_is_halted}
 use Rattle.hc_verify.proofs.Delaying.{not_idle}
-use Rattle.hc_verify.proofs.Showing.{least_shown}
-use Rattle.hc_verify.proofs.Terminating.{ended_shown}
 
 -- ---- what a walk learns of time
 

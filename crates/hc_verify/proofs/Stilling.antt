@@ -22,10 +22,10 @@ use Rattle.hc_order.proofs.Stroll.{all_stay}
 use Rattle.hc_order.proofs.OneWay.{did_one, one_stroll}
 use Rattle.hc_order.proofs.Loop.{stretch_is_stroll}
 use Rattle.hc_order.proofs.Advancing.{advances_one, advances_add, no_more_moves}
+use Rattle.hc_member.proofs.Places.{is_set}
 use Rattle.hc_verify.specs.declared.walk.Walk.{Walk}
 use Rattle.hc_verify.specs.Stands.{IsAt, Runs}
 use Rattle.hc_verify.specs.Halting.{HasNoStep, AreStill, Halts, AllHalt, still_steps}
-use Rattle.hc_verify.proofs.Places.{is_set}
 use Rattle.hc_verify.proofs.Logging.{is_there, same_number}
 
 -- ---- one process

@@ -1,5 +1,5 @@
 -- The end line of a run in which all processes ended: all take their steps, and there is no other way to reach it.
-use Rattle.std.proofs.Common.{◌≡◌, refl, sym, ap, ap₂, ◌∙◌, ℕ, zero, suc, ◌≤◌, ◌<◌, Bool, true, false, ◌&&◌, List, [], ◌∷◌, map, slice_get, Option, Some, None, arith}
+use Rattle.std.proofs.Common.{◌≡◌, refl, sym, ap, ◌∙◌, ℕ, zero, suc, ◌≤◌, ◌<◌, Bool, true, false, List, [], ◌∷◌, slice_get, Option, Some, None, arith}
 use Rattle.std.specs.List.{list_all}
 use Rattle.std.proofs.lemmas.Bool.{true≢false, and_parts}
 use Rattle.hc_rational.specs.Words.{Rational}
@@ -8,37 +8,25 @@ use Rattle.hc_term.specs.declared.stmt.Stmt.{Stmt}
 use Rattle.hc_term.specs.declared.post.Post.{Post}
 use Rattle.hc_term.specs.declared.run.Stop.TheVariants.{Terminated}
 use Rattle.hc_term.specs.declared.model.Mark.{Mark}
-use Rattle.hc_term.specs.declared.model.Mark.TheVariants.{Going, Arrived}
 use Rattle.hc_term.specs.declared.model.ProcessState.{ProcessState}
 use Rattle.hc_term.specs.declared.model.Configuration.{Configuration}
-use Rattle.hc_term.specs.Value.{Store}
 use Rattle.hc_term.specs.Process.{is_done, bound, wants_at}
-use Rattle.hc_term.specs.Offers.{post_at, post}
 use Rattle.hc_term.specs.Silent.{silent}
 use Rattle.hc_term.specs.Step.{all_ended}
 use Rattle.hc_term.proofs.Wanting.{active-wants}
 use Rattle.hc_order.specs.Demand.{Advances, everyone}
 use Rattle.hc_order.proofs.Ending.{halted_end_moves_are_all}
+use Rattle.hc_member.specs.Ended.{is_ended}
+use Rattle.hc_member.proofs.Showing.{ended_shown}
 use Rattle.hc_verify.specs.declared.walk.Walk.{Walk}
 use Rattle.hc_verify.specs.Stands.{IsAt}
 use Rattle.hc_verify.specs.Halting.{AreStill, AllHalt}
 use Rattle.hc_verify.specs.Following.{IsReached}
-use Rattle.hc_verify.specs.Ending.{Reaches, is_ended}
+use Rattle.hc_verify.specs.Ending.{Reaches}
 use Rattle.hc_verify.proofs.Stilling.{still_is_halted}
 use Rattle.hc_verify.proofs.Delaying.{not_idle}
 
 -- ---- a process that has ended
-
-ended_at : (clock : Rational) (s : Store) (b : Option Rational) (mark : Mark) (todo : List Stmt) →
-    is_ended (post_at clock s b mark todo).phase ≡ is_done todo
-ended_at clock s b mark [] = refl
-ended_at clock s b Going (head ∷ rest) = refl
-ended_at clock s b (Arrived left) (head ∷ rest) = refl
-
-pub ended_shown : (clock : Rational) (qs : List ProcessState) →
-    list_all (λ (p : Post). is_ended p.phase) (map (post clock) qs) ≡ list_all (λ (q : ProcessState). is_done q.todo) qs
-ended_shown clock [] = refl
-ended_shown clock (q ∷ qs) = ap₂ (λ a b. a && b) (ended_at clock q.store (bound q) q.mark q.todo) (ended_shown clock qs)
 
 done_wants : (mark : Mark) (b : Option Rational) (todo : List Stmt) → is_done todo ≡ true → wants_at mark b todo ≡ false
 done_wants mark b [] h = refl

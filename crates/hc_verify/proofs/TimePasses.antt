@@ -14,10 +14,10 @@ use Rattle.hc_board.specs.declared.delayed.Delayed.{Delayed}
 use Rattle.hc_board.specs.declared.delayed.Delayed.TheVariants as said
 use Rattle.hc_board.specs.Able.{least_from}
 use Rattle.hc_board.specs.Answers.{answer_of, after_meeting}
+use Rattle.hc_member.specs.States.{AllIn}
+use Rattle.hc_member.proofs.Showing.{least_shown}
 use Rattle.hc_verify.specs.declared.walk.Walk.{Walk}
-use Rattle.hc_verify.specs.States.{AllIn}
 use Rattle.hc_verify.specs.Timing.{IsRunTo, IsPassing, Times}
-use Rattle.hc_verify.proofs.Showing.{least_shown}
 
 none_is : {A : Type 0} (o : Option A) → is_some o ≡ false → o ≡ None
 none_is None h = refl

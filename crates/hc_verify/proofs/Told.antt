@@ -1,95 +1,29 @@
--- Two members that were told of their meeting.
-use Rattle.std.proofs.Common.{◌≡◌, ◌≢◌, sym, ap, subst, ◌∙◌, ℕ, List, map, slice_get, slice_set, Some, None, true}
-use Rattle.hc_rational.specs.Words.{Rational}
-use Rattle.hc_term.specs.declared.post.Post.{Post}
-use Rattle.hc_term.specs.declared.model.ProcessState.{ProcessState}
+-- Two members of a walk that were told of their meeting.
+use Rattle.std.proofs.Common.{◌≡◌, ◌∙◌}
+use Rattle.hc_term.specs.declared.system.System.{System}
 use Rattle.hc_term.specs.declared.model.Meeting.{Meeting}
 use Rattle.hc_term.specs.declared.model.Configuration.{Configuration}
-use Rattle.hc_term.specs.declared.system.System.{System}
-use Rattle.hc_term.specs.Offers.{post}
-use Rattle.hc_term.specs.Posts.{sent_on, receives_on}
-use Rattle.hc_term.specs.Communication.{sent, received}
-use Rattle.hc_term.specs.Step.{posts, changed, met}
-use Rattle.hc_term.proofs.Places.{set-set_other, get-changed_other, get-set_other}
+use Rattle.hc_term.specs.Step.{met}
 use Rattle.hc_runs.specs.Laws.{Joins}
-use Rattle.hc_verify.specs.declared.member.Member.{Member}
+use Rattle.hc_member.specs.States.{AllIn}
+use Rattle.hc_member.proofs.Telling.{AreTold, told_show}
 use Rattle.hc_verify.specs.declared.walk.Walk.{Walk}
-use Rattle.hc_verify.specs.States.{IsIn, AllIn}
 use Rattle.hc_verify.specs.Stands.{IsAt}
-use Rattle.hc_verify.proofs.Places.{changed_sets}
-use Rattle.hc_verify.proofs.Beside.{all_but_one}
-use Rattle.hc_verify.proofs.Shows.{set_shown}
 
-module _ (f g : ProcessState → ProcessState) (qs : List ProcessState) (s r : ℕ) (a b : ProcessState)
-    (differ : s ≢ r) (s_is : slice_get qs s ≡ Some a) (r_is : slice_get qs r ≡ Some b) where
-  -- both changes set their places
-  both_changed : changed f s (changed g r qs) ≡ slice_set (slice_set qs s (f a)) r (g b)
-  both_changed =
-      changed_sets f (changed g r qs) s a (get-changed_other g qs r s (λ e. differ (sym e)) ∙ s_is)
-      ∙ ap (λ (l : List ProcessState). slice_set l s (f a)) (changed_sets g qs r b r_is)
-      ∙ set-set_other qs r s (g b) (f a) (λ e. differ (sym e))
-
-  -- and what is shown at both
-  both_shown : (clock : Rational) →
-      map (post clock) (changed f s (changed g r qs)) ≡ slice_set (slice_set (map (post clock) qs) s (post clock (f a))) r (post clock (g b))
-  both_shown clock =
-      ap (map (post clock)) both_changed ∙ set_shown clock (slice_set qs s (f a)) r (g b)
-      ∙ ap (λ (l : List Post). slice_set l r (post clock (g b))) (set_shown clock qs s (f a))
-
-  all_told : (clock : Rational) (ms : List Member) (m n : Member) → AllIn clock ms qs →
-      IsIn s clock m (f a) → IsIn r clock n (g b) →
-      AllIn clock (slice_set (slice_set ms s m) r n) (changed f s (changed g r qs))
-  all_told clock ms m n all one other =
-      let first = all_but_one clock ms qs s m (f a) all one in
-      let both = all_but_one clock (slice_set ms s m) (slice_set qs s (f a)) r n (g b) first other in
-      subst (λ (l : List ProcessState). AllIn clock (slice_set (slice_set ms s m) r n) l) (sym both_changed) both
-
--- the member shows this, in whatever state it is
-abbrev pub ShowsAll : Member → Post → Type 0
-ShowsAll m shown = (k : ℕ) (clock : Rational) (q : ProcessState) → IsIn k clock m q → shown ≡ post clock q
-
--- the sender was told, and then the receiver; each put on the board what it shows
-pub record HasTold (m : Meeting) (old new : Walk) (one sender two receiver : Member) (sending receiving : Post) : Type 0 where
-  pub sender_is : slice_get old.members.items m.sender ≡ Some one
-  pub sends : (k : ℕ) (clock : Rational) (q : ProcessState) → IsIn k clock one q → sent_on m.channel (post clock q).offers ≢ None →
-      IsIn k clock sender (sent m.channel q)
-  pub sender_shows : ShowsAll sender sending
-  pub receiver_is : slice_get (slice_set old.members.items m.sender sender) m.receiver ≡ Some two
-  pub receives : (k : ℕ) (clock : Rational) (q : ProcessState) → IsIn k clock two q → receives_on m.channel (post clock q).offers ≡ true →
-      IsIn k clock receiver (received m.channel m.value q)
-  pub receiver_shows : ShowsAll receiver receiving
+-- the two were told, and nothing else changed
+pub record HasTold (m : Meeting) (old new : Walk) : Type 0 where
   pub clock : new.clock ≡ old.clock
   pub channels : new.board.channels ≡ old.board.channels
-  pub members : new.members.items ≡ slice_set (slice_set old.members.items m.sender sender) m.receiver receiver
-  pub board : new.board.posts ≡ slice_set (slice_set old.board.posts m.sender sending) m.receiver receiving
+  pub tells : (c : Configuration) → AllIn c.clock old.members.items c.processes → (j : Joins m c) →
+      AreTold m c j new.members.items old.board.posts new.board.posts
 
-pub told_by : (m : Meeting) (old new : Walk) (one sender two receiver : Member) (sending receiving : Post) →
-    HasTold m old new one sender two receiver sending receiving →
-    (sys : System) (c : Configuration) → IsAt sys old c → Joins m c → IsAt sys new (met m c)
-told_by m old new one sender two receiver sending receiving h sys c at j =
-    let ms = old.members.items in
-    let all = at.members in
-    let send = sent m.channel in
-    let receive = received m.channel m.value in
-    let before = all.each m.sender one j.sender h.sender_is j.sender_is in
-    let told : IsIn m.sender c.clock sender (send j.sender) = h.sends m.sender c.clock j.sender before (λ e. sends_none e) in
-    let there : slice_get ms m.receiver ≡ Some two = sym (get-set_other ms m.sender m.receiver sender j.differ) ∙ h.receiver_is in
-    let other = all.each m.receiver two j.receiver there j.receiver_is in
-    let took : IsIn m.receiver c.clock receiver (receive j.receiver) = h.receives m.receiver c.clock j.receiver other j.receives in
+pub is_told : (m : Meeting) (old new : Walk) → HasTold m old new → (sys : System) (c : Configuration) → IsAt sys old c → Joins m c →
+    IsAt sys new (met m c)
+is_told m old new h sys c at j =
+    let told = h.tells c at.members j in
     record {
-      members = subst (λ (l : List Member). AllIn c.clock l (met m c).processes) (sym h.members)
-          (all_told send receive c.processes m.sender m.receiver j.sender j.receiver j.differ j.sender_is j.receiver_is
-          c.clock ms sender receiver all told took);
-      shown =
-          h.board
-          ∙ ap (λ (ps : List Post). slice_set (slice_set ps m.sender sending) m.receiver receiving) at.shown
-          ∙ ap (λ (x : Post). slice_set (slice_set (posts c) m.sender x) m.receiver receiving)
-          (h.sender_shows m.sender c.clock (send j.sender) told)
-          ∙ ap (λ (x : Post). slice_set (slice_set (posts c) m.sender (post c.clock (send j.sender))) m.receiver x)
-          (h.receiver_shows m.receiver c.clock (receive j.receiver) took)
-          ∙ sym (both_shown send receive c.processes m.sender m.receiver j.sender j.receiver j.differ j.sender_is j.receiver_is c.clock);
+      members = told.members;
+      shown = told_show m c j new.members.items old.board.posts new.board.posts told at.shown;
       channels = h.channels ∙ at.channels;
       clock = h.clock ∙ at.clock;
-    } where
-      sends_none : sent_on m.channel (post c.clock j.sender).offers ≡ None → ⊥
-      sends_none e = let some = j.sends in cc
+    }

@@ -2,8 +2,6 @@
 use Rattle.std.specs.Prelude.{◌≡◌, ◌<◌, ◌≤◌, ℕ, ◌-◌, Bool, true, false, not, Option, Some, None}
 use Rattle.hc_rational.specs.Words.{Rational}
 use Rattle.hc_term.specs.declared.task.Task.{Task}
-use Rattle.hc_term.specs.declared.post.Phase.{Phase}
-use Rattle.hc_term.specs.declared.post.Phase.TheVariants as phase
 use Rattle.hc_term.specs.declared.run.Stop.{Stop}
 use Rattle.hc_term.specs.declared.run.Stop.TheVariants.{Deadlock, Horizon, Limit, Overflow}
 use Rattle.hc_term.specs.declared.run.StretchEnd.{StretchEnd}
@@ -52,10 +50,6 @@ ReachesEndLine t line room c None =
     (stop : Stop) → IsStopOf t.system line.kind line.who stop → ReachesEnd t stop line.at room c None
 
 -- ---- what shows them
-
-abbrev pub is_ended : Phase → Bool
-is_ended phase.Ended = true
-is_ended _ = false
 
 -- the steps of a stretch that ended before a step that doesn't fit
 abbrev pub unfit_steps : StretchEnd → ℕ → Option ℕ

@@ -7,6 +7,5 @@ pub mod Laws
 pub mod Named
 pub mod Places
 pub mod Stands
-pub mod States
 pub mod Texts
 pub mod Timing

@@ -5,8 +5,8 @@ use Rattle.hc_term.specs.declared.model.Configuration.{Configuration}
 use Rattle.hc_term.specs.Step.{posts, replaced}
 use Rattle.hc_term.specs.Event.{Progress}
 use Rattle.hc_step.specs.declared.stretch.Stretch.{Stretch}
+use Rattle.hc_member.specs.States.{AllIn}
 use Rattle.hc_verify.specs.declared.walk.Walk.{Walk}
-use Rattle.hc_verify.specs.States.{AllIn}
 
 pub record IsAt (sys : System) (w : Walk) (c : Configuration) : Type 0 where
   pub members : AllIn c.clock w.members.items c.processes

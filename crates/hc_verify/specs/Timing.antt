@@ -7,8 +7,8 @@ use Rattle.hc_term.specs.declared.model.Configuration.{Configuration}
 use Rattle.hc_term.specs.Posts.{Took}
 use Rattle.hc_term.specs.Moved.{moved_post}
 use Rattle.hc_term.specs.Step.{opening, posts, passing, delayed, Leads}
+use Rattle.hc_member.specs.States.{AllIn}
 use Rattle.hc_verify.specs.declared.walk.Walk.{Walk}
-use Rattle.hc_verify.specs.States.{AllIn}
 use Rattle.hc_verify.specs.Stands.{IsAt}
 
 -- the walk stands for c, to which a run leads

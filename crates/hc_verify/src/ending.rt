@@ -1,36 +1,14 @@
 //! End lines.
 
 ghost use Rattle.std.specs.Prelude.{◌≡◌};
-ghost use Rattle.std.specs.List.{list_all};
-ghost use Rattle.hc_verify.specs.Ending.{is_ended, unfit_steps};
+ghost use Rattle.hc_verify.specs.Ending.{unfit_steps};
 
 use crate::following::is_same;
 use crate::walk::Walk;
 use hc_frac::Frac;
+use hc_member::are_ended;
 use hc_step::Stretch;
-use hc_term::{Phase, Post, Stop, StretchEnd, Task};
-
-/// Whether a process has ended.
-fn has_ended(post: &Post) -> bool
-    ensures { result ≡ is_ended post.now.phase }
-{
-    match post.phase {
-        Phase::Ended => true,
-        _ => false,
-    }
-}
-
-/// Whether all processes have ended.
-pub(crate) fn are_ended(posts: &[Post]) -> bool
-    ensures { result ≡ list_all (λ p. is_ended p.phase) posts.now }
-{
-    for post in posts {
-        if !has_ended(post) {
-            return false;
-        }
-    }
-    true
-}
+use hc_term::{Stop, StretchEnd, Task};
 
 /// How many steps a stretch took that ended before a step that doesn't fit.
 fn steps_to_unfit(stretch: &Stretch) -> Option<u32>

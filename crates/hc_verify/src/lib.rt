@@ -7,8 +7,6 @@ mod halting;
 mod judge;
 mod laws;
 mod meeting;
-mod member;
-mod members;
 mod names;
 mod stops;
 mod timing;

@@ -3,11 +3,11 @@
 ghost use Rattle.std.specs.Prelude.{◌≡◌};
 ghost use Rattle.hc_verify.specs.Ending.{stops_time, invisible_steps};
 
-use crate::ending::are_ended;
 use crate::following::is_same;
 use crate::walk::Walk;
 use hc_board::Delayed;
 use hc_frac::Frac;
+use hc_member::are_ended;
 use hc_step::Stretch;
 use hc_term::{Stop, StretchEnd, Task};
 

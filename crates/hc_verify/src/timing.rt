@@ -1,10 +1,10 @@
 //! Time that passes for all processes.
 
 use crate::following::is_same;
-use crate::members::move_all;
 use crate::walk::Walk;
 use hc_board::Delayed;
 use hc_frac::Frac;
+use hc_member::move_all;
 use hc_term::Task;
 
 impl Walk {

@@ -3,10 +3,9 @@
 ghost use Rattle.std.specs.Prelude.{◌≤◌, length};
 ghost use Rattle.hc_limits.specs.Limits.{most_processes};
 
-use crate::member::Member;
-use crate::members::open_all;
 use hc_board::Board;
 use hc_frac::Frac;
+use hc_member::{Member, open_all};
 use hc_step::Stretch;
 use hc_term::{Meeting, Task};
 use std::alloc::{AllocError, Global};

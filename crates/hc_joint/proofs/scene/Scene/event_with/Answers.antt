@@ -1,8 +1,8 @@
 use Rattle.std.proofs.Common.{subst}
+use Rattle.hc_member.specs.Lending.{kept}
 use Rattle.hc_joint.specs.declared.turn.Turn.{Turn}
 use Rattle.hc_joint.specs.Parts.{room}
 use Rattle.hc_joint.specs.Handed.{Judges}
-use Rattle.hc_joint.specs.Lending.{kept}
 use Rattle.hc_joint.proofs.scene.Scene.event_with.Goals as goal
 
 pub event_by-requires-clause-taken : goal.event_by-requires-clause-taken

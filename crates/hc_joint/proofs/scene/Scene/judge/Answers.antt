@@ -1,12 +1,12 @@
-use Rattle.std.proofs.Common.{rules, ◌≡◌, ◌-◌, refl, sym, subst, ◌∙◌, ℕ, length, vec_len, slice_get, Option, Some, arith}
+use Rattle.std.proofs.Common.{rules, ◌≡◌, ◌-◌, refl, sym, subst, ◌∙◌, ℕ, length, vec_len, slice_get, Some, arith}
 use Rattle.std.specs.Prelude.{◌↔◌, IsTrue}
 use Rattle.std.proofs.lemmas.Option.{slice_get_read}
 use Rattle.hc_advance.specs.Lead.{StartsAt}
-use Rattle.hc_joint.specs.declared.member.Member.{Member}
+use Rattle.hc_member.specs.declared.member.Member.{Member}
+use Rattle.hc_member.specs.Lending.{kept}
 use Rattle.hc_joint.specs.declared.turn.Turn.{Turn}
 use Rattle.hc_joint.specs.Parts.{room}
 use Rattle.hc_joint.specs.Handed.{Judges}
-use Rattle.hc_joint.specs.Lending.{kept}
 use Rattle.hc_joint.specs.Judging.{judged}
 use Rattle.hc_joint.proofs.Deciding.{judges}
 use Rattle.hc_joint.proofs.scene.Scene.judge.Goals as goal

@@ -4,9 +4,10 @@ use Rattle.hc_rational.specs.Words.{◌+ℚ◌}
 use Rattle.hc_term.specs.Communication.{moved}
 use Rattle.hc_term.specs.Posts.{post_fits}
 use Rattle.hc_term.specs.Together.{is_within}
-use Rattle.hc_joint.specs.declared.member.Member.{Member}
-use Rattle.hc_joint.specs.States.{AllIn}
-use Rattle.hc_joint.proofs.Passed.{written_back, end_fits, from_zero, members_fit, members_within, passed_follows}
+use Rattle.hc_member.specs.declared.member.Member.{Member}
+use Rattle.hc_member.specs.States.{AllIn}
+use Rattle.hc_member.proofs.Passing.{written_back}
+use Rattle.hc_joint.proofs.Passed.{end_fits, from_zero, members_fit, members_within, passed_follows}
 use Rattle.hc_joint.proofs.scene.Scene.let_pass.Goals as goal
 
 pub unreachable-requires : goal.unreachable-requires

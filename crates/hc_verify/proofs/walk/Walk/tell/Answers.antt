@@ -2,11 +2,12 @@ use Rattle.std.proofs.Common.{refl, ap, ◌∙◌, ◌<◌, length, slice_set, a
 use Rattle.std.proofs.lemmas.Option.{slice_get_read}
 use Rattle.hc_board.specs.Seen.{Seen}
 use Rattle.hc_runs.proofs.Basics.{length-set}
-use Rattle.hc_verify.proofs.Told.{told_by}
+use Rattle.hc_member.proofs.Telling.{told_by}
+use Rattle.hc_verify.proofs.Told.{is_told}
 use Rattle.hc_verify.proofs.walk.Walk.tell.Goals as goal
 
 pub returns : goal.returns
-returns c sys before at joins =
+returns c =
     let s = c.args.self.now in
     let m = c.args.meeting.now in
     let ms = s.members.items in
@@ -14,18 +15,20 @@ returns c sys before at joins =
     let two = c.index_mut-receiver.result.now in
     let told = slice_set ms m.sender c.sent.new.self in
     let receiver : m.receiver < length told = omega (arith, length-set ms m.sender c.sent.new.self, c.requires.receiver) in
-    told_by m s _ one c.sent.new.self two c.received.new.self c.post.result.now c.post-3.result.now
+    is_told m s _
     (record {
-      sender_is = slice_get_read ms (length ms) m.sender one refl c.requires.sender c.index_mut-sender.ensures.value;
-      sends = c.sent.ensures;
-      sender_shows = c.post.ensures.of_state;
-      receiver_is = slice_get_read told (length told) m.receiver two refl receiver c.index_mut-receiver.ensures.value;
-      receives = c.received.ensures;
-      receiver_shows = c.post-3.ensures.of_state;
       clock = refl;
       channels = ap (λ (b : Seen). b.channels) c.post-4.ensures ∙ ap (λ (b : Seen). b.channels) c.post-2.ensures;
-      members = refl;
-      board = ap (λ (b : Seen). b.posts) c.post-4.ensures
-          ∙ ap (λ (b : Seen). slice_set b.posts m.receiver c.post-3.result.now) c.post-2.ensures;
+      tells = told_by m ms _ s.board.posts _ one c.sent.new.self two c.received.new.self c.post.result.now c.post-3.result.now
+          (record {
+            sender_is = slice_get_read ms (length ms) m.sender one refl c.requires.sender c.index_mut-sender.ensures.value;
+            sends = c.sent.ensures;
+            sender_shows = c.post.ensures.of_state;
+            receiver_is = slice_get_read told (length told) m.receiver two refl receiver c.index_mut-receiver.ensures.value;
+            receives = c.received.ensures;
+            receiver_shows = c.post-3.ensures.of_state;
+            members = refl;
+            shown = ap (λ (b : Seen). b.posts) c.post-4.ensures
+                ∙ ap (λ (b : Seen). slice_set b.posts m.receiver c.post-3.result.now) c.post-2.ensures;
+          });
     })
-    sys before at joins

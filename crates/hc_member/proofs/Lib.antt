@@ -1,0 +1,9 @@
+pub mod Places
+pub mod Shown
+pub mod Showing
+pub mod Beside
+pub mod Opened
+pub mod Moves
+pub mod Passing
+pub mod Telling
+pub mod TakingOver

@@ -1,5 +1,0 @@
-use Rattle.hc_verify.proofs.Moves.{FirstMoved}
-use Rattle.hc_verify.proofs.members.move_all.Given as goal
-
-abbrev pub invariant-loop-at : goal.invariant-loop-at
-invariant-loop-at l = FirstMoved l.by l.at l.initial.members l.members

@@ -1,9 +1,0 @@
-use Rattle.std.proofs.Common.{◌≡◌, take, vec_len}
-use Rattle.hc_verify.specs.States.{AllOpen}
-use Rattle.hc_verify.proofs.members.open_all.Given as goal
-
-abbrev pub invariant-loop-process : goal.invariant-loop-process
-invariant-loop-process l = record {
-  counted : vec_len l.members ≡ l.process-index;
-  opened : AllOpen (take l.process-index l.processes) l.members.items;
-}
