@@ -1,6 +1,6 @@
 -- What the places of a code stand for: each for a body's names, the number of functions that it may call, and a list of
 -- statements still to do.
-use Rattle.std.specs.Prelude.{◌≡◌, ◌<◌, ℕ, ◌+◌, Bool, false, List, [], ◌∷◌, ◌++◌, length, slice_get, Option, Some, None}
+use Rattle.std.specs.Prelude.{◌≡◌, ◌<◌, ℕ, ◌+◌, Bool, false, IsTrue, List, [], ◌∷◌, ◌++◌, length, slice_get, Option, Some, None}
 use Rattle.hc_cast.specs.Primitives.{primitive_named, count}
 use Rattle.hc_cast.specs.declared.primitive.Primitive.{Primitive}
 use Rattle.hc_cast.specs.declared.expr.CExpr.{CExpr}
@@ -10,6 +10,7 @@ use Rattle.hc_cast.specs.declared.stmt.CCase.{CCase, out-CCase}
 use Rattle.hc_cast.specs.declared.program.CBody.{CBody}
 use Rattle.hc_cast.specs.declared.program.CFunction.{CFunction}
 use Rattle.hc_cast.specs.declared.program.CProgram.{CProgram}
+use Rattle.hc_cmach.specs.Calls.{are_written}
 use Rattle.hc_cmach.specs.State.{Word, place_of, array_place, array_length, function_among}
 use Rattle.hc_cmach.specs.Turn.{or_nothing}
 use Rattle.hc_ccode.specs.declared.code.Case.{Case}
@@ -53,6 +54,7 @@ pub record CallsFunction (g : CProgram) (names : List Word) (known next : ℕ) (
 
 pub record CallsPrimitive (g : CProgram) (names : List Word) (next : ℕ) (i : Node) (target : Option Word) (p : Primitive) (es : List CExpr) : Type 0 where
   pub even : count p ≡ length es
+  pub written : IsTrue (are_written p es)
   pub is : i ≡ placed_primitive g names target p es next
 
 abbrev pub CallAgrees : CProgram → List Word → ℕ → ℕ → Node → Option Word → Word → List CExpr → Option Primitive → Type 0

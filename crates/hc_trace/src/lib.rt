@@ -12,7 +12,7 @@ mod traces;
 
 pub use ends::ChannelEnds;
 pub use laws::{range_laws, reading_laws};
-pub use lines::{HEADER, end_line, event_line, header};
+pub use lines::{HEADER, end_line, event_line, header, line_of};
 pub use reading::{TraceStop, read_trace};
 pub use splitting::split_text;
 pub use traces::{EndKind, Trace, TraceEnd, TraceEvent, TraceLine, Version};

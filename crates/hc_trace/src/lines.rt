@@ -116,8 +116,8 @@ fn end_name(system: &System, end: Option<u32>) -> &str
     }
 }
 
-/// The line of these words.
-fn line_of(first: &str, rest: &[&str]) -> ArrayString<320>
+/// The line of these words: a space between them, and a newline behind the last. It has at most 320 bytes.
+pub fn line_of(first: &str, rest: &[&str]) -> ArrayString<320>
     requires { length (words (first.now ∷ map (λ w. w.now) rest.now)) ≤ 320 }
     ensures { result.bytes ≡ words (first.now ∷ map (λ w. w.now) rest.now) }
 {
