@@ -1,0 +1,4 @@
+pub mod Same
+pub mod Deeds
+pub mod Lowest
+pub mod Along

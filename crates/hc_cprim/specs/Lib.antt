@@ -1,0 +1,3 @@
+pub mod Worth
+pub mod Laws
+pub mod Deeds
