@@ -1,0 +1,11 @@
+pub mod Answering
+pub mod Codes
+pub mod EmptyRow
+pub mod Going
+pub mod Opened
+pub mod Requests
+pub mod Roused
+pub mod Stacks
+pub mod Stepped
+pub mod Steps
+pub mod Worlds

@@ -1,0 +1,9 @@
+pub mod Answers
+pub mod Applied
+pub mod Asks
+pub mod Goes
+pub mod Means
+pub mod Opening
+pub mod Stands
+pub mod Taken
+pub mod Told
