@@ -1,0 +1,4 @@
+pub mod Single
+pub mod Performing
+pub mod Along
+pub mod Flushing

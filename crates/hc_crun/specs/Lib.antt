@@ -1,0 +1,3 @@
+pub mod Items
+pub mod Going
+pub mod Told
