@@ -24,7 +24,7 @@ use Rattle.hc_finds.specs.declared.stop.CheckStop.TheVariants as check
 use Rattle.hc_check.specs.Checked as checks
 use Rattle.hc_term.specs.declared.system.System.{System}
 use Rattle.hc_cmd.specs.declared.refusal.Refusal.{Refusal}
-use Rattle.hc_cmd.specs.declared.refusal.Refusal.TheVariants.{Usage, Unread, Memory, TooLong, NoTrace, Unparsed, Unexpanded, Unchecked, Untraced, Unconverted}
+use Rattle.hc_cmd.specs.declared.refusal.Refusal.TheVariants.{Usage, Unread, Memory, TooLong, NoTrace, Unparsed, Unexpanded, Unchecked, Untraced, Unconverted, NoProgram}
 use Rattle.std.specs.Result.{IsErrAnd}
 use Rattle.hc_cmd.specs.declared.prepared.Prepared.{Prepared}
 use Rattle.hc_cmd.specs.Reply.{Reply}
@@ -208,6 +208,7 @@ module _ {R S : Type 0} (call : Call R) (state : S → SourceState) (words : Lis
   unread_readies request asked reads NoTrace h = absurd h
   unread_readies request asked reads (Untraced s) h = absurd h
   unread_readies request asked reads (Unconverted s) h = absurd h
+  unread_readies request asked reads (NoProgram s) h = absurd h
 
   -- what is given where no source is read
   pub alone_readies : (request : R) → call.asks words request → call.reads request ≡ false → after ≡ before → (r : Result Prepared Refusal) →

@@ -4,7 +4,9 @@ pub mod TracedTexts
 pub mod Statuses
 pub mod Calling
 pub mod OneReply
+pub mod CTexts
 pub mod OneTraced
 pub mod RunReplies
 pub mod Courses
 pub mod Reports
+pub mod Executions

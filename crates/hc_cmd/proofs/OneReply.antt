@@ -24,6 +24,7 @@ use Rattle.hc_term.specs.declared.task.Task.{Task}
 use Rattle.hc_term.specs.Canonical.{canonical}
 use Rattle.hc_term.specs.Given.{HasParts}
 use Rattle.hc_term.specs.Laws.{CanonicalIsBehaviour}
+use Rattle.hc_cread.specs.TextLaws as programs
 use Rattle.hc_trace.specs.Laws.{OneTrace, TextsAreNotRefused}
 use Rattle.hc_trace.specs.Laws as traces
 use Rattle.hc_verify.specs.Laws.{TraceHasOneVerdict}
@@ -85,7 +86,7 @@ one_sum made system r s a b =
 
 -- ---- texts
 
--- what the crates below say of all texts, trees and expanded sources
+-- what the crates below say of all texts, trees, expanded sources, traces and C texts
 pub record Decided : Type 0 where
   pub one_tree : OneTree
   pub one_refusal : texts.OneRefusal
@@ -100,6 +101,9 @@ pub record Decided : Type 0 where
   pub one_line : traces.OneRefusal
   pub trace_not_refused : TextsAreNotRefused
   pub one_verdict : TraceHasOneVerdict
+  pub one_program : programs.OneTextProgram
+  pub one_c_refusal : programs.OneTextRefusal
+  pub program_not_refused : programs.TextsAreNotRefused
 
 module _ (d : Decided) where
   -- where a tree decides its reply, so does a text

@@ -20,7 +20,7 @@ use Rattle.hc_verify.specs.Judging.{JudgesTrace}
 use Rattle.hc_verify.specs.Laws.{YesIsOfBehaviour, YesIsFirstPart}
 use Rattle.hc_verify.specs.Texts.{IsFirstPart}
 use Rattle.hc_words.specs.declared.requests.Request.{Request}
-use Rattle.hc_words.specs.declared.requests.Request.TheVariants.{Check, Print, Simulate, Channels, Convert, Verify, Make}
+use Rattle.hc_words.specs.declared.requests.Request.TheVariants.{Check, Print, Simulate, Channels, Convert, Verify, Make, Cexec}
 use Rattle.hc_words.specs.declared.settings.Settings.{Settings}
 use Rattle.hc_cmd.specs.declared.refusal.Refusal.TheVariants.{Untraced}
 use Rattle.hc_cmd.specs.Reply.{Reply}
@@ -29,6 +29,7 @@ use Rattle.hc_cmd.specs.Sources.{OfSource}
 use Rattle.hc_cmd.specs.Traced.{OfTrace, refused_at_line, traced, OfTraced, no_trace, long_source, cut, Converts, judged, Judges}
 use Rattle.hc_cmd.specs.Answers.{Answers}
 use Rattle.hc_cmd.specs.Laws.{IsTracedSource, IsVerdict}
+use Rattle.hc_cmd.proofs.CTexts.{program_decides}
 use Rattle.hc_cmd.proofs.OneReply.{Decided, one_task, one_told, one_sum, text_decides, source_decides, text_accepted}
 
 -- a text is cut at one place at most
@@ -79,6 +80,7 @@ module _ (d : Decided) where
   one_answer Convert text r s a b = traced_decides Converts (λ system trace r s e f. e ∙ sym f) text r s a b
   one_answer (Verify settings) text r s a b = traced_decides (Judges settings) (one_verdict settings) text r s a b
   one_answer (Make made) text r s a b = source_decides d _ (λ flat system r s x y. one_sum made system r s x y) _ r s a b
+  one_answer (Cexec asked) text r s a b = program_decides d _ (λ g r s e f. e ∙ sym f) text r s a b
 
   -- ---- accepted sources with traces
 

@@ -1,5 +1,5 @@
 -- The statuses of answers: those of what is done, and those of refusals, which leave nothing on output.
-use Rattle.std.proofs.Common.{◌≡◌, ◌≢◌, ◌==◌, ℕ, Bool, false, List, [], ◌∷◌, take, drop, Result, Ok, Err, IsTrue, refl, sym, ap, subst, ◌∙◌}
+use Rattle.std.proofs.Common.{◌≡◌, ◌≢◌, ◌==◌, ℕ, Bool, true, false, if◌then◌else◌, List, [], ◌∷◌, take, drop, Result, Ok, Err, IsTrue, refl, sym, ap, subst, ◌∙◌}
 use Rattle.std.specs.List.{list_any}
 use Rattle.hc_ast.specs.declared.tree.Tree.{Tree}
 use Rattle.hc_modules.specs.declared.flat.Flat.{Flat}
@@ -19,17 +19,23 @@ use Rattle.hc_trace.specs.declared.traces.Trace.{Trace}
 use Rattle.hc_verify.specs.declared.verdict.Verdict.{Verdict}
 use Rattle.hc_verify.specs.declared.verdict.Verdict.TheVariants.{Yes, No}
 use Rattle.hc_words.specs.declared.requests.Request.{Request}
-use Rattle.hc_words.specs.declared.requests.Request.TheVariants.{Check, Print, Simulate, Channels, Convert, Verify, Make}
+use Rattle.hc_cast.specs.declared.program.CProgram.{CProgram}
+use Rattle.hc_cmach.specs.declared.exec_end.ExecEnd.{ExecEnd}
+use Rattle.hc_cmach.specs.declared.exec_end.ExecEnd.TheVariants.{Ended, UsedUp, Undefined}
+use Rattle.hc_cmach.specs.Seeded.{performed}
+use Rattle.hc_words.specs.declared.requests.Request.TheVariants.{Check, Print, Simulate, Channels, Convert, Verify, Make, Cexec}
 use Rattle.hc_words.specs.declared.settings.Settings.{Settings}
 use Rattle.hc_cmd.specs.Reply.{Reply}
 use Rattle.hc_cmd.specs.Refusals.{status_of_module_stop, status_of_check_stop}
 use Rattle.hc_cmd.specs.Sources.{OfText, no_source, source, OfTree, unexpanded, unchecked, accepted, OfSource}
+use Rattle.hc_cmd.specs.Executed.{OfC, no_program, program, status_by}
+use Rattle.hc_cgrammar.specs.declared.flaw.Refusal.TheVariants as why
 use Rattle.hc_cmd.specs.Traced.{OfTrace, refused_at_line, traced, OfTraced, no_trace, long_source, cut, converted, judged}
 use Rattle.hc_cmd.specs.Answers.{OfTask, Answers, status_at, telling}
 
 -- what is done ends with one of these
 abbrev pub is_done : ℕ → Bool
-is_done status = list_any (λ k. k == status) (0 ∷ 10 ∷ 11 ∷ 12 ∷ 15 ∷ [])
+is_done status = list_any (λ k. k == status) (0 ∷ 10 ∷ 11 ∷ 12 ∷ 13 ∷ 14 ∷ 15 ∷ [])
 
 -- a text is refused with one of these, or memory runs out
 abbrev pub is_refusal : ℕ → Bool
@@ -131,6 +137,24 @@ task_answers : (text : System → List Item → Rational → Stop → List ℕ) 
     OfTask (telling text) settings system reply → IsAnswer reply
 task_answers text settings system reply s = same_answer reply _ s.stands (does (status_is_done (canonical s.task).stop))
 
+kind_is_done : (deadlock limit overflow : Bool) →
+    IsTrue (is_done (if deadlock then 10 else (if limit then 12 else (if overflow then 11 else 0))))
+kind_is_done true limit overflow = refl
+kind_is_done false true overflow = refl
+kind_is_done false false true = refl
+kind_is_done false false false = refl
+
+end_is_done : (end : ExecEnd) → IsTrue (is_done (status_by end))
+end_is_done (Ended kind) = kind_is_done (kind == 1) (kind == 3) (kind == 4)
+end_is_done UsedUp = refl
+end_is_done (Undefined kind step) = refl
+
+program_answers : (G : CProgram → Reply → Type 0) (text : List ℕ) (reply : Reply) → ((g : CProgram) → G g reply → IsAnswer reply) →
+    OfC G text reply → IsAnswer reply
+program_answers G text reply given (no_program why.Prelude is e) = same_answer reply _ e (refuses refl refl)
+program_answers G text reply given (no_program (why.Unit flaw place) is e) = same_answer reply _ e (refuses refl refl)
+program_answers G text reply given (program g is h) = given g h
+
 pub is_answer : (request : Request) (text : List ℕ) (reply : Reply) → Answers request text reply → IsAnswer reply
 is_answer Check text reply a = source_answers _ text reply (λ flat system e. same_answer reply _ e (does refl)) a
 is_answer Print text reply a = text_answers _ text reply (λ tree e. same_answer reply _ e (does refl)) a
@@ -139,3 +163,4 @@ is_answer (Channels settings) text reply a = source_answers _ text reply (λ fla
 is_answer Convert text reply a = traced_answers _ text reply (λ system trace e. same_answer reply _ e (converted_answers _)) a
 is_answer (Verify settings) text reply a = traced_answers _ text reply (λ system trace j. same_answer reply _ j.stands (judged_answers _ j.verdict)) a
 is_answer (Make made) text reply a = source_answers _ _ reply (λ flat system s. same_answer reply _ s.stands (does refl)) a
+is_answer (Cexec asked) text reply a = program_answers _ text reply (λ g e. same_answer reply _ e (does (end_is_done (performed g asked.seed asked.steps).end))) a

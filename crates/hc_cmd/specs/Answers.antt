@@ -15,7 +15,7 @@ use Rattle.hc_term.specs.TraceText as trace
 use Rattle.hc_det.specs.Text.{channels_text}
 use Rattle.hc_make.specs.Made.{made_text}
 use Rattle.hc_words.specs.declared.requests.Request.{Request}
-use Rattle.hc_words.specs.declared.requests.Request.TheVariants.{Check, Print, Simulate, Channels, Convert, Verify, Make}
+use Rattle.hc_words.specs.declared.requests.Request.TheVariants.{Check, Print, Simulate, Channels, Convert, Verify, Make, Cexec}
 use Rattle.hc_words.specs.declared.settings.Made.{Made}
 use Rattle.hc_words.specs.declared.settings.Settings.{Settings}
 use Rattle.hc_words.specs.Requests.{Ask}
@@ -23,6 +23,7 @@ use Rattle.hc_cmd.specs.Reply.{Reply}
 use Rattle.hc_cmd.specs.Calls.{Call}
 use Rattle.hc_cmd.specs.Sources.{OfText, OfSource, done}
 use Rattle.hc_cmd.specs.Made.{TellsRun}
+use Rattle.hc_cmd.specs.Executed.{OfC, executed}
 use Rattle.hc_cmd.specs.Traced.{OfTraced, Converts, Judges}
 
 -- ---- what the actions give
@@ -76,16 +77,18 @@ Answers (Channels settings) = OfSource (λ flat. OfTask listed settings)
 Answers Convert = OfTraced Converts
 Answers (Verify settings) = OfTraced (Judges settings)
 Answers (Make made) = λ text. OfSource (λ flat. SumsUp made) (made_text made.pairs made.seed)
+Answers (Cexec asked) = OfC (λ g reply. reply ≡ executed asked g)
 
 -- all but `make` read a source
 abbrev pub reads_source : Request → Bool
 reads_source (Make made) = false
 reads_source _ = true
 
--- the most bytes that are read: a source alone is shorter than one with a trace behind it
+-- the most bytes that are read: a source alone is shorter than one with a trace behind it, or than a C text
 abbrev pub most_bytes_of : Request → ℕ
 most_bytes_of Convert = most_text_bytes
 most_bytes_of (Verify settings) = most_text_bytes
+most_bytes_of (Cexec asked) = most_text_bytes
 most_bytes_of _ = most_source_bytes
 
 -- the call `answer`

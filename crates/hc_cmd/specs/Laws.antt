@@ -1,5 +1,5 @@
 -- What holds of all texts.
-use Rattle.std.specs.Prelude.{◌≡◌, ◌+◌, ◌↔◌, ℕ, Bool, true, false, List, [], length, take, drop, min, sum, Some, IsTrue}
+use Rattle.std.specs.Prelude.{◌≡◌, ◌≤◌, ◌+◌, ◌↔◌, ℕ, suc, Bool, true, false, List, [], ◌∷◌, ◌++◌, length, take, drop, min, sum, slice_get, Option, Some, None, IsTrue}
 use Rattle.hc_make.specs.Made.{made_text}
 use Rattle.hc_check.specs.Accepted.{IsAccepted}
 use Rattle.hc_rational.specs.Words.{Rational}
@@ -17,6 +17,19 @@ use Rattle.hc_runs.specs.Turns.{Turns}
 use Rattle.hc_order.specs.Determinate.{is_determinate}
 use Rattle.hc_order.specs.Laws.{IsSettled}
 use Rattle.hc_det.specs.Text.{channels_text}
+use Rattle.hc_cast.specs.declared.program.CProgram.{CProgram}
+use Rattle.hc_cgrammar.specs.Text.{IsCText}
+use Rattle.hc_schedule.specs.Schedule.{moves}
+use Rattle.hc_schedule.specs.Sections as schedule
+use Rattle.hc_schedule.specs.Sections.{Step, IsSafe}
+use Rattle.hc_cmach.specs.declared.exec_end.ExecEnd.{ExecEnd}
+use Rattle.hc_cmach.specs.declared.exec_end.ExecEnd.TheVariants.{Ended, UsedUp, Undefined}
+use Rattle.hc_cmach.specs.declared.kind.Kind.{Kind}
+use Rattle.hc_cmach.specs.declared.moved.Moved.TheVariants as said
+use Rattle.hc_cmach.specs.Line.{Line, Ends, first_end}
+use Rattle.hc_cmach.specs.Machine.{opening, scheduled, prints, step_said}
+use Rattle.hc_cmach.specs.Seeded.{seeded}
+use Rattle.hc_cmach.specs.Turn.{c_code}
 use Rattle.hc_trace.specs.declared.traces.Trace.{Trace}
 use Rattle.hc_trace.specs.Splitting.{IsFirstHeader}
 use Rattle.hc_trace.specs.Traces.{IsTraceText}
@@ -25,7 +38,8 @@ use Rattle.hc_trace.specs.Written.{HasWords}
 use Rattle.hc_verify.specs.Laws.{IsOfBehaviour}
 use Rattle.hc_verify.specs.Texts.{IsFirstPart}
 use Rattle.hc_words.specs.declared.requests.Request.{Request}
-use Rattle.hc_words.specs.declared.requests.Request.TheVariants.{Check, Simulate, Channels, Convert, Verify, Make}
+use Rattle.hc_words.specs.declared.requests.Request.TheVariants.{Check, Simulate, Channels, Convert, Verify, Make, Cexec}
+use Rattle.hc_words.specs.declared.settings.ExecutionRequest.{ExecutionRequest}
 use Rattle.hc_words.specs.declared.settings.Made.{Made}
 use Rattle.hc_words.specs.declared.settings.RunRequest.{RunRequest}
 use Rattle.hc_words.specs.declared.settings.Settings.{Settings}
@@ -33,6 +47,7 @@ use Rattle.hc_cmd.specs.Reply.{Reply}
 use Rattle.hc_cmd.specs.Made.{IsMadeTask, line_of}
 use Rattle.hc_cmd.specs.Sources.{OfSource, done}
 use Rattle.hc_cmd.specs.Traced.{converted}
+use Rattle.hc_cmd.specs.Executed.{status_by, end_text, moved_text}
 use Rattle.hc_cmd.specs.Answers.{Answers, size_of, status_at}
 use Rattle.hc_cmd.specs.Running.{Runs, report_for}
 
@@ -161,3 +176,33 @@ RunListsTheSame =
     IsSettled (canonical task).stop → asked.channels ≡ true →
     OfSource (λ flat. Runs asked) text reply → Answers (Channels asked.settings) text other →
     (reply.out ≡ other.out) × (reply.status ≡ other.status)
+
+-- How a schedule is left behind its first items: at the first end line, which is the last line that is printed; with all items used and
+-- no end line; or in front of a step that is undefined, with no end line before.
+pub data IsLeft (g : CProgram) (w : List schedule.Item) (items : ℕ) (end : ExecEnd) : Type 0 where
+  at_end : (lines : List (ℕ × Line)) (thread kind : ℕ) (clock : Rational) (who : Option ℕ) →
+      (scheduled g (take items w)).lines ≡ lines ++ (thread, Ends kind clock who) ∷ [] → first_end lines ≡ None →
+      end ≡ Ended kind → IsLeft g w items end
+  used_up : items ≡ length w → first_end (scheduled g (take items w)).lines ≡ None → end ≡ UsedUp → IsLeft g w items end
+  undefined : (thread : ℕ) (kind : Kind) → slice_get w items ≡ Some (Step thread) →
+      step_said g (scheduled g (take items w)) thread ≡ said.Undefined kind → first_end (scheduled g (take items w)).lines ≡ None →
+      end ≡ Undefined kind (suc items) → IsLeft g w items end
+
+-- The first items of a schedule, none of which is an undefined step: on output stands what they print, and the status and the lines on
+-- error tell how the schedule is left behind them.
+pub record TellsSchedule (report : Bool) (g : CProgram) (w : List schedule.Item) (reply : Reply) : Type 0 where
+  pub items : ℕ
+  pub within : items ≤ length w
+  pub safe : IsSafe (moves (c_code g)) (opening g) (take items w)
+  pub end : ExecEnd
+  pub left : IsLeft g w items end
+  pub out : reply.out ≡ prints g (take items w)
+  pub status : reply.status ≡ status_by end
+  pub err : reply.err ≡ end_text end ++ moved_text report (scheduled g (take items w)).moved
+
+-- Of a C text `cexec` writes what its program prints under a beginning of the schedule of the seed, which has as many items as the words
+-- say steps.
+abbrev pub ExecutionIsScheduled : Type 0
+ExecutionIsScheduled =
+    (asked : ExecutionRequest) (text : List ℕ) (g : CProgram) (reply : Reply) → IsCText text g → Answers (Cexec asked) text reply →
+    (length (seeded g asked.seed asked.steps) ≡ asked.steps) × TellsSchedule asked.report g (seeded g asked.seed asked.steps) reply

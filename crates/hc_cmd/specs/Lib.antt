@@ -4,6 +4,7 @@ pub mod Calls
 pub mod Sources
 pub mod Traced
 pub mod Made
+pub mod Executed
 pub mod Answers
 pub mod Running
 pub mod Prepared

@@ -15,12 +15,17 @@ use Rattle.hc_world.specs.Counts.{Rose}
 use Rattle.hc_world.specs.Reading.{ReadsAll, ReadsPast, ReadsWithin}
 use Rattle.hc_world.specs.States.{SourceState, SinkState}
 use Rattle.hc_world.specs.Sinks.{IsWhole, IsCut}
+use Rattle.hc_cast.specs.declared.program.CProgram.{CProgram}
+use Rattle.hc_cgrammar.specs.Text.{IsCText}
+use Rattle.hc_cmach.specs.Machine.{opening}
+use Rattle.hc_cexec.specs.Stands.{IsAt}
 use Rattle.hc_cmd.specs.declared.ending.End.{End}
 use Rattle.hc_cmd.specs.declared.ending.Text.{Text}
 use Rattle.hc_cmd.specs.declared.ending.Told.{Told}
 use Rattle.hc_cmd.specs.declared.ending.Told.TheVariants as told
 use Rattle.hc_cmd.specs.declared.refusal.Refusal.{Refusal}
 use Rattle.hc_cmd.specs.declared.refusal.Refusal.TheVariants.{Memory, TooLong, Unread}
+use Rattle.hc_cmd.specs.declared.executing.Execution.{Execution}
 use Rattle.hc_cmd.specs.declared.simulation.Simulation.{Simulation}
 use Rattle.hc_cmd.specs.declared.prepared.Prepared.{Prepared}
 use Rattle.hc_cmd.specs.declared.prepared.Prepared.TheVariants as is
@@ -30,11 +35,16 @@ use Rattle.hc_cmd.specs.Running as running
 use Rattle.hc_cmd.specs.Refusals.{refused}
 use Rattle.hc_cmd.specs.Traced.{OfTraced}
 use Rattle.hc_cmd.specs.Sources.{OfText, OfSource, done}
+use Rattle.hc_cmd.specs.Executed.{OfC, executed}
 use Rattle.hc_cmd.specs.Answers.{simulated}
 
 -- it has done nothing yet
 abbrev pub AtOpening : Simulation → Type 0
 AtOpening s = s.joint ≡ opened s.joint.task
+
+-- so for an execution: its machine stands at the opening of its program
+abbrev pub IsOpened : Execution → Type 0
+IsOpened e = IsAt e.program e.machine (opening e.program)
 
 -- the text on error
 abbrev pub bytes_of : Told → List ℕ
@@ -51,12 +61,14 @@ reply_to (is.Simulation s) = simulated s.joint.task
 reply_to (is.Line line) = done line.bytes
 reply_to (is.Text text) = reply_in text
 reply_to (is.Run run) = running.told false run.joint run.report.items
+reply_to (is.Execution e) = executed e.asked e.program
 
 abbrev pub IsReady : Prepared → Type 0
 IsReady (is.Simulation s) = AtOpening s
 IsReady (is.Line line) = Unit {0}
 IsReady (is.Text text) = Unit {0}
 IsReady (is.Run run) = IsSome run.joint.stop
+IsReady (is.Execution e) = IsOpened e
 
 -- what is ready, or the refusal, lets this stand
 abbrev pub reply_of : Result Prepared Refusal → Reply
@@ -102,6 +114,11 @@ pub record AcceptsTraced (text : List ℕ) (system : System) (trace : Trace) : T
 abbrev pub FindsTraced : List ℕ → Result (System × Trace) Refusal → Type 0
 FindsTraced text result =
     MatchResult result (λ p. AcceptsTraced text p.0 p.1) (λ r. (refused r ≡ refused Memory) ⊎ OfTraced (λ _ _ _. ⊥) text (refused r))
+
+-- the program of a C text, or want of memory, or what is answered to a text that is none
+abbrev pub FindsProgram : List ℕ → Result CProgram Refusal → Type 0
+FindsProgram text result =
+    MatchResult result (IsCText text) (λ r. (refused r ≡ refused Memory) ⊎ OfC (λ _ _. ⊥) text (refused r))
 
 -- what is ready lets such a reply stand; or want of memory, or a refusal that is such a reply
 abbrev pub Prepares : (Reply → Type 0) → Result Prepared Refusal → Type 0

@@ -15,9 +15,14 @@ use Rattle.hc_trace.specs.declared.reading.TraceStop as reads
 use Rattle.hc_trace.specs.declared.reading.TraceStop.TheVariants as reading
 use Rattle.hc_upgrade.specs.declared.whole.UpgradeStop as makes
 use Rattle.hc_upgrade.specs.declared.whole.UpgradeStop.TheVariants as making
+use Rattle.hc_cgrammar.specs.declared.flaw.Flaw as units
+use Rattle.hc_cgrammar.specs.declared.flaw.Flaw.TheVariants as unit
+use Rattle.hc_cgrammar.specs.declared.flaw.Refusal.TheVariants as why
+use Rattle.hc_cread.specs.declared.whole.CStop as programs
+use Rattle.hc_cread.specs.declared.whole.CStop.TheVariants as program
 use Rattle.hc_cmd.specs.Reply.{Reply}
 use Rattle.hc_cmd.specs.declared.refusal.Refusal.{Refusal}
-use Rattle.hc_cmd.specs.declared.refusal.Refusal.TheVariants.{Usage, Unread, Memory, TooLong, NoTrace, Unparsed, Unexpanded, Unchecked, Untraced, Unconverted}
+use Rattle.hc_cmd.specs.declared.refusal.Refusal.TheVariants.{Usage, Unread, Memory, TooLong, NoTrace, Unparsed, Unexpanded, Unchecked, Untraced, Unconverted, NoProgram}
 
 -- a message as a line
 abbrev pub line : List ℕ → List ℕ
@@ -108,6 +113,22 @@ abbrev pub message_of_upgrade_stop : makes.UpgradeStop → List ℕ
 message_of_upgrade_stop (making.Channel n) = at_line n (codes ": channel")
 message_of_upgrade_stop making.Memory = codes "out of memory"
 
+-- what is wrong with the unit of a C text
+abbrev pub message_of_unit_flaw : units.Flaw → List ℕ
+message_of_unit_flaw unit.Limit = codes "limit"
+message_of_unit_flaw unit.Syntax = codes "syntax"
+message_of_unit_flaw unit.TooDeep = codes "nested too deeply"
+message_of_unit_flaw unit.Names = codes "names"
+
+abbrev pub status_of_program_stop : programs.CStop → ℕ
+status_of_program_stop program.Memory = 5
+status_of_program_stop _ = 1
+
+abbrev pub message_of_program_stop : programs.CStop → List ℕ
+message_of_program_stop (program.Refused why.Prelude) = codes "prelude"
+message_of_program_stop (program.Refused (why.Unit flaw p)) = at_place p (message_of_unit_flaw flaw)
+message_of_program_stop program.Memory = codes "out of memory"
+
 abbrev pub status_of : Refusal → ℕ
 status_of Usage = 2
 status_of Unread = 3
@@ -119,6 +140,7 @@ status_of (Unexpanded s) = status_of_module_stop s
 status_of (Unchecked s) = status_of_check_stop s
 status_of (Untraced s) = status_of_trace_stop s
 status_of (Unconverted s) = status_of_upgrade_stop s
+status_of (NoProgram s) = status_of_program_stop s
 
 abbrev pub message_of : Refusal → List ℕ
 message_of Usage = codes "usage: hcsp ACTION [N] [--seed K] [--horizon T] [--limit K] [--workers K] [--steps K] [--report] [--channels]"
@@ -131,6 +153,7 @@ message_of (Unexpanded s) = message_of_module_stop s
 message_of (Unchecked s) = message_of_check_stop s
 message_of (Untraced s) = message_of_trace_stop s
 message_of (Unconverted s) = message_of_upgrade_stop s
+message_of (NoProgram s) = message_of_program_stop s
 
 -- nothing stands on output, and the line on error
 abbrev pub refused : Refusal → Reply

@@ -1,8 +1,10 @@
 //! Laws of the definitions.
 
-ghost use Rattle.hc_cmd.specs.Laws.{AcceptedIsSized, ConversionIsNew, ListingIsBehaviour, MadeIsBehaviour, OneAcceptedSystem, OneAnswer, RunIsBehaviour, RunListsTheSame, SimulationIsBehaviour, VerifiedIsFirstPart, VerifiedIsOfBehaviour};
+ghost use Rattle.hc_cmd.specs.Laws.{AcceptedIsSized, ConversionIsNew, ExecutionIsScheduled, ListingIsBehaviour, MadeIsBehaviour, OneAcceptedSystem, OneAnswer, RunIsBehaviour, RunListsTheSame, SimulationIsBehaviour, VerifiedIsFirstPart, VerifiedIsOfBehaviour};
 
 use hc_check::system_laws;
+use hc_cmach::items;
+use hc_cread::text_laws as c_text_laws;
 use hc_det::channel_laws;
 use hc_modules::tree_laws;
 use hc_parse::text_laws;
@@ -21,6 +23,7 @@ pub fn acceptance_laws()
     ensures verified { VerifiedIsOfBehaviour }
     ensures verified_text { VerifiedIsFirstPart }
     ensures made { MadeIsBehaviour }
+    ensures executed { ExecutionIsScheduled }
     ensures run { RunIsBehaviour }
     ensures no_schedule { RunListsTheSame }
 {
@@ -31,4 +34,6 @@ pub fn acceptance_laws()
     channel_laws();
     reading_laws();
     verdict_laws();
+    c_text_laws();
+    items();
 }

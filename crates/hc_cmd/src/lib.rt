@@ -4,6 +4,7 @@
 mod accepting;
 mod answering;
 mod ending;
+mod executing;
 mod laws;
 mod listing;
 mod making;

@@ -12,6 +12,7 @@ ghost use Rattle.hc_cmd.specs.Prepared.{reply_to, GivesNone, IsReady, IsTextOf, 
 
 use crate::accepting::{accepted, size_line, tree_of};
 use crate::ending::{End, Text};
+use crate::executing::{Execution, prepare_execution};
 use crate::making::{made_settings, run_line};
 use crate::refusal::Refusal;
 use crate::running::Run;
@@ -35,6 +36,7 @@ pub enum Prepared {
     Text(Text),
     /// A run on threads that is over.
     Run(Run),
+    Execution(Execution),
 }
 
 /// What is asked for of a text, or why there is nothing to write.
@@ -50,6 +52,7 @@ fn prepare_text(alloc: Global, request: Request, text: &[u8]) -> Result<Prepared
         Request::Convert => prepare_conversion(alloc, text),
         Request::Verify(settings) => prepare_verdict(alloc, settings, text),
         Request::Make(made) => prepare_made(alloc, made),
+        Request::Cexec(asked) => prepare_execution(alloc, asked, text),
     }
 }
 
@@ -117,7 +120,8 @@ fn reads_source(request: &Request) -> bool
         | Request::Simulate(_)
         | Request::Channels(_)
         | Request::Convert
-        | Request::Verify(_) => true,
+        | Request::Verify(_)
+        | Request::Cexec(_) => true,
     }
 }
 
@@ -126,7 +130,7 @@ fn most_bytes_of(request: &Request) -> usize
     ensures { result ≡ spec.most_bytes_of request.now }
 {
     match request {
-        Request::Convert | Request::Verify(_) => MOST_TEXT_BYTES,
+        Request::Convert | Request::Verify(_) | Request::Cexec(_) => MOST_TEXT_BYTES,
         Request::Check
         | Request::Print
         | Request::Simulate(_)
@@ -187,6 +191,7 @@ impl Prepared {
             Prepared::Line(line) => perform_line(line.as_str().as_bytes(), out),
             Prepared::Text(text) => text.perform(out),
             Prepared::Run(run) => run.perform(out),
+            Prepared::Execution(execution) => execution.perform(out),
         }
     }
 }

@@ -6,7 +6,9 @@ ghost use Rattle.hc_cmd.specs.Refusals as spec;
 
 use crate::ending::{End, Told};
 use arrayvec::ArrayString;
+use hc_cgrammar::{Flaw, Refusal as TextRefusal};
 use hc_check::{CheckStop, What};
+use hc_cread::CStop;
 use hc_frac::Place;
 use hc_modules::ModuleStop;
 use hc_parse::ParseStop;
@@ -43,6 +45,8 @@ pub enum Refusal {
     Untraced(TraceStop),
     #[error("the trace isn't one of the system")]
     Unconverted(UpgradeStop),
+    #[error("the text isn't a C text")]
+    NoProgram(CStop),
 }
 
 impl Refusal {
@@ -68,7 +72,8 @@ impl Refusal {
             | Refusal::Unexpanded(ModuleStop::Memory)
             | Refusal::Unchecked(CheckStop::Memory)
             | Refusal::Untraced(TraceStop::Memory)
-            | Refusal::Unconverted(UpgradeStop::Memory) => 5,
+            | Refusal::Unconverted(UpgradeStop::Memory)
+            | Refusal::NoProgram(CStop::Memory) => 5,
             _ => 1,
         }
     }
@@ -88,6 +93,7 @@ impl Refusal {
             Refusal::Unchecked(stop) => line_of_check_stop(stop),
             Refusal::Untraced(stop) => line_of_trace_stop(stop),
             Refusal::Unconverted(stop) => line_of_upgrade_stop(stop),
+            Refusal::NoProgram(stop) => line_of_program_stop(stop),
         }
     }
 }
@@ -167,6 +173,27 @@ fn line_of_upgrade_stop(stop: UpgradeStop) -> ArrayString<128>
     match stop {
         UpgradeStop::Channel { number } => line_at_line(number, ": channel"),
         UpgradeStop::Memory => line_of("out of memory"),
+    }
+}
+
+fn line_of_program_stop(stop: CStop) -> ArrayString<128>
+    ensures { result.bytes ≡ spec.line (spec.message_of_program_stop stop) }
+{
+    match stop {
+        CStop::Refused(TextRefusal::Prelude) => line_of("prelude"),
+        CStop::Refused(TextRefusal::Unit(flaw, place)) => line_of_unit_flaw(flaw, place),
+        CStop::Memory => line_of("out of memory"),
+    }
+}
+
+fn line_of_unit_flaw(flaw: Flaw, place: Place) -> ArrayString<128>
+    ensures { result.bytes ≡ spec.line (spec.at_place place (spec.message_of_unit_flaw flaw)) }
+{
+    match flaw {
+        Flaw::Limit => line_at(place, "limit"),
+        Flaw::Syntax => line_at(place, "syntax"),
+        Flaw::TooDeep => line_at(place, "nested too deeply"),
+        Flaw::Names => line_at(place, "names"),
     }
 }
 

@@ -6,7 +6,7 @@ use Rattle.std.specs.Str.{bytes_eq}
 use Rattle.clap.specs.Walk.{Text}
 use Rattle.std.specs.Str.Parse.{digits_value}
 use Rattle.std.proofs.lemmas.Bool.{leb-true}
-use Rattle.hc_limits.specs.Limits.{most_pairs, most_steps, most_workers}
+use Rattle.hc_limits.specs.Limits.{most_pairs, most_steps, most_machine_steps, most_workers}
 use Rattle.hc_rational.specs.Words.{Rational, is_positive}
 use Rattle.hc_words.specs.declared.requests.Request.{Request}
 use Rattle.hc_words.specs.declared.requests.WordsStop.{WordsStop}
@@ -17,7 +17,7 @@ use Rattle.hc_words.specs.declared.actions.Action.TheVariants as act
 use Rattle.hc_words.specs.Actions.{name_of_action, name_of_run, room_of_run, fits, belongs}
 use Rattle.hc_words.specs.Seen.{IsRequested, IsRunRequested}
 use Rattle.hc_words.specs.Line.{Given, is_taken, given}
-use Rattle.hc_words.specs.Requests.{Ask, Asks, IsRun, AskRun, pairs_in, workers_in, limit_in, IsHorizon}
+use Rattle.hc_words.specs.Requests.{Ask, Asks, IsRun, AskRun, pairs_in, workers_in, limit_in, machine_steps_in, IsHorizon}
 use Rattle.hc_words.specs.Numbers.{is_digits, number_within}
 use Rattle.hc_words.proofs.Defaults.{hundred_positive}
 
@@ -76,7 +76,7 @@ action_of t =
     if bytes_eq t (codes "check") then Some act.Check else (if bytes_eq t (codes "print") then Some act.Print
     else (if bytes_eq t (codes "simulate") then Some act.Simulate else (if bytes_eq t (codes "channels") then Some act.Channels
     else (if bytes_eq t (codes "convert") then Some act.Convert else (if bytes_eq t (codes "verify") then Some act.Verify
-    else (if bytes_eq t (codes "make") then Some act.Make else None))))))
+    else (if bytes_eq t (codes "make") then Some act.Make else (if bytes_eq t (codes "cexec") then Some act.Cexec else None)))))))
 
 its_name : (a : Action) → action_of (name_of_action a) ≡ Some a
 unfolding action_of
@@ -87,6 +87,7 @@ its_name act.Channels = refl
 its_name act.Convert = refl
 its_name act.Verify = refl
 its_name act.Make = refl
+its_name act.Cexec = refl
 
 one_of : (a b : Action) → Some a ≡ Some b → a ≡ b
 one_of a b e = cc
@@ -132,6 +133,11 @@ pairs_within (Some t) n e = within 1 most_pairs n t e
 pub workers_within : (o : Option Text) (n : ℕ) → workers_in o ≡ Some n → (1 ≤ n) × (n ≤ most_workers)
 workers_within None n e = let same : 64 ≡ n = cc e in (omega (arith, same), omega (arith, same))
 workers_within (Some t) n e = within 1 most_workers n t e
+
+-- so are machine steps
+pub machine_steps_within : (o : Option Text) (n : ℕ) → machine_steps_in o ≡ Some n → (1 ≤ n) × (n ≤ most_machine_steps)
+machine_steps_within None n e = let same : 100000 ≡ n = cc e in (omega (arith, same), omega (arith, same))
+machine_steps_within (Some t) n e = within 1 most_machine_steps n t e
 
 -- a limit that is given or not is in range
 pub limits : (o : Option Text) (n : ℕ) → limit_in o ≡ Some n → (1 ≤ n) × (n ≤ most_steps)

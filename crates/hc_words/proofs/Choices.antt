@@ -12,7 +12,7 @@ use Rattle.clap.specs.Walk.{Held, Row, Rule, Text, Walk, idle, option, has_row, 
 use Rattle.clap.specs.Lexer.{long_of}
 use Rattle.clap.specs.Simple.{Shape}
 use Rattle.clap.specs.Takes.{turn_passes, walk_passes}
-use Rattle.hc_words.specs.Order.{Setting, number, seed, horizon, limit, workers, report, channels, name_of, is_number, is_flag, Choice, words_of, IsRight, is_other, are_apart}
+use Rattle.hc_words.specs.Order.{Setting, number, seed, horizon, limit, workers, steps, report, channels, name_of, is_number, is_flag, Choice, words_of, IsRight, is_other, are_apart}
 use Rattle.hc_words.proofs.Rights.{BeginsPlain, right_plain}
 use Rattle.hc_words.proofs.Uses.{row_for}
 use Rattle.hc_words.proofs.Steps.{IsFlag, IsOption, IsWord, Reached, raised, raised_walked, raised_passes, raised_reached, put, word_walked, word_passes, word_reached, standing, joined, joined_walked, joined_passes, joined_reached, named, named_walked, named_passes, valued, valued_walked, valued_passes, valued_reached}
@@ -66,6 +66,7 @@ long_alone seed = refl
 long_alone horizon = refl
 long_alone limit = refl
 long_alone workers = refl
+long_alone steps = refl
 long_alone report = refl
 long_alone channels = refl
 
@@ -75,6 +76,7 @@ long_joined seed v = refl
 long_joined horizon v = refl
 long_joined limit v = refl
 long_joined workers v = refl
+long_joined steps v = refl
 long_joined report v = refl
 long_joined channels v = refl
 
@@ -84,6 +86,7 @@ alone_dashes seed = refl
 alone_dashes horizon = refl
 alone_dashes limit = refl
 alone_dashes workers = refl
+alone_dashes steps = refl
 alone_dashes report = refl
 alone_dashes channels = refl
 
@@ -93,6 +96,7 @@ joined_dashes seed v = refl
 joined_dashes horizon v = refl
 joined_dashes limit v = refl
 joined_dashes workers v = refl
+joined_dashes steps v = refl
 joined_dashes report v = refl
 joined_dashes channels v = refl
 
@@ -102,6 +106,7 @@ not_number seed e = refl
 not_number horizon e = refl
 not_number limit e = refl
 not_number workers e = refl
+not_number steps e = refl
 not_number report e = refl
 not_number channels e = refl
 
@@ -200,6 +205,7 @@ module _ (s : Shape) (rule : Setting → Rule) (options : (k : Setting) → is_n
   choice_leads horizon b v h rows n right reached none counts = option_leads horizon b v h rows n refl refl right reached none counts
   choice_leads limit b v h rows n right reached none counts = option_leads limit b v h rows n refl refl right reached none counts
   choice_leads workers b v h rows n right reached none counts = option_leads workers b v h rows n refl refl right reached none counts
+  choice_leads steps b v h rows n right reached none counts = option_leads steps b v h rows n refl refl right reached none counts
   choice_leads report b v h rows n right reached none counts = raising_leads report v h rows n refl refl right reached none counts
   choice_leads channels b v h rows n right reached none counts = raising_leads channels v h rows n refl refl right reached none counts
 

@@ -2,7 +2,6 @@
 use Rattle.std.proofs.Common.{◌≡◌, refl, ap, sym, subst, ◌∙◌, ℕ, ◌==◌, Bool, true, false, not, ◌||◌, List, [], ◌∷◌, map, Option, Some, None, slice_get}
 use Rattle.std.specs.Prelude.{codes, flat_map, pos}
 use Rattle.std.specs.List.{All, list_all}
-use Rattle.std.specs.Str.{bytes_eq}
 use Rattle.std.proofs.lemmas.Bool.{and_from}
 use Rattle.std.proofs.lemmas.List.{append-nil}
 use Rattle.clap.specs.Walk.{Text, Row, first_of, has_row}
@@ -12,20 +11,21 @@ use Rattle.hc_words.specs.declared.actions.Action.{Action}
 use Rattle.hc_words.specs.declared.actions.Action.TheVariants as act
 use Rattle.hc_words.specs.declared.actions.Room.{Room}
 use Rattle.hc_words.specs.declared.requests.Request.{Request}
-use Rattle.hc_words.specs.declared.requests.Request.TheVariants.{Check, Print, Simulate, Channels, Convert, Verify, Make}
+use Rattle.hc_words.specs.declared.requests.Request.TheVariants.{Check, Print, Simulate, Channels, Convert, Verify, Make, Cexec}
+use Rattle.hc_words.specs.declared.settings.ExecutionRequest.{ExecutionRequest}
 use Rattle.hc_words.specs.declared.settings.Made.{Made}
 use Rattle.hc_words.specs.declared.settings.RunRequest.{RunRequest}
 use Rattle.hc_words.specs.declared.settings.Settings.{Settings}
 use Rattle.hc_words.specs.Actions.{name_of_action, room_of, name_of_run, room_of_run, is_wanted, allows, fits, belongs}
 use Rattle.hc_words.specs.Line.{Given, given, given_in, is_taken, is_yes}
-use Rattle.hc_words.specs.Order.{Setting, number, seed, horizon, limit, workers, report, channels, name_of, Choice, words_of, are_apart, IsRight, has, StandInOrder, AreInOrder, AreRunInOrder, said, given_by}
-use Rattle.hc_words.specs.Requests.{Ask, Asks, AreSettings, IsMade, IsRun, AskRun, IsHorizon, pairs_in, limit_in, seed_in, workers_in}
-use Rattle.hc_words.proofs.Asking.{pairs_within, workers_within, limits, positive}
+use Rattle.hc_words.specs.Order.{Setting, number, seed, horizon, limit, workers, steps, report, channels, name_of, Choice, words_of, are_apart, IsRight, has, StandInOrder, AreInOrder, AreRunInOrder, said, given_by}
+use Rattle.hc_words.specs.Requests.{Ask, Asks, AreSettings, IsMade, IsExecution, IsRun, AskRun, IsHorizon, pairs_in, limit_in, machine_steps_in, seed_in, workers_in}
+use Rattle.hc_words.proofs.Asking.{pairs_within, workers_within, machine_steps_within, limits, positive}
 use Rattle.hc_words.proofs.Rights.{BeginsPlain}
 use Rattle.hc_words.proofs.Choices.{Leads, are_new, choices_lead, row_of_choice}
 use Rattle.hc_words.proofs.Options.{shape, rule_at, number_is_word, is_option, is_flag_of}
 use Rattle.hc_words.proofs.Passing.{acting, action_row, action_reached, led_free}
-use Rattle.hc_words.proofs.Values.{IsRightIn, defaults_give, first_said, said_right, said_allowed, led_matches, passed_over}
+use Rattle.hc_words.proofs.Values.{IsRightIn, defaults_give, first_said, said_right, said_allowed, led_matches}
 
 -- ---- an action with choices behind it
 
@@ -39,17 +39,9 @@ not_action (c ∷ cs) action = and_from _ _ (go c.setting) (not_action cs action
     go horizon = refl
     go limit = refl
     go workers = refl
+    go steps = refl
     go report = refl
     go channels = refl
-
-not_steps : (k : Setting) → bytes_eq (name_of k) (codes "steps") ≡ false
-not_steps number = refl
-not_steps seed = refl
-not_steps horizon = refl
-not_steps limit = refl
-not_steps workers = refl
-not_steps report = refl
-not_steps channels = refl
 
 -- the rows of an action with choices behind it are what the choices give
 rows_give : (action : Text) (cs : List Choice) → given_in (action_row action ∷ map row_of_choice cs) ≡ given_by cs
@@ -61,10 +53,10 @@ rows_give action cs =
     let second = ap (first_of (codes "horizon")) (sym end) ∙ first_said horizon cs [] refl in
     let third = ap (first_of (codes "limit")) (sym end) ∙ first_said limit cs [] refl in
     let fourth = ap (first_of (codes "workers")) (sym end) ∙ first_said workers cs [] refl in
-    let steps = ap (first_of (codes "steps")) (sym end) ∙ passed_over (codes "steps") not_steps cs [] in
+    let fifth = ap (first_of (codes "steps")) (sym end) ∙ first_said steps cs [] refl in
     let told = ap (first_of (codes "report")) (sym end) ∙ first_said report cs [] refl in
     let listed = ap (first_of (codes "channels")) (sym end) ∙ first_said channels cs [] refl in
-    rw (counted, first, second, third, fourth, steps, told, listed) refl
+    rw (counted, first, second, third, fourth, fifth, told, listed) refl
 
 module _ (x : ℕ) (v : Text) (e : (x == 45) ≡ false) (cs : List Choice) (right : All (λ c. IsRight c.setting c.value) cs) (apart : are_apart cs ≡ true) where
   led : Leads shape (acting (x ∷ v)) 2 (flat_map words_of cs) (action_row (x ∷ v) ∷ map row_of_choice cs)
@@ -87,6 +79,7 @@ action_plain act.Channels = refl
 action_plain act.Convert = refl
 action_plain act.Verify = refl
 action_plain act.Make = refl
+action_plain act.Cexec = refl
 
 -- words in order are taken, they give what their choices give, and there is room for that
 module _ (action : Text) (room : Room) (words : List Text) (order : StandInOrder action room words) where
@@ -113,6 +106,10 @@ seed_found (Some t) h = h
 workers_found : (o : Option Text) → IsRightIn workers o → (n : ℕ) × (workers_in o ≡ Some n)
 workers_found None h = (64, refl)
 workers_found (Some t) h = h
+
+steps_found : (o : Option Text) → IsRightIn steps o → (n : ℕ) × (machine_steps_in o ≡ Some n)
+steps_found None h = (100000, refl)
+steps_found (Some t) h = h
 
 limit_found : (o : Option Text) → IsRightIn limit o → (n : ℕ) × (limit_in o ≡ Some n)
 limit_found None h = (10000, refl)
@@ -149,6 +146,19 @@ made_found cs wanted right =
       record { pairs = first.1; seed = second.1 },
     )
 
+execution_found : (cs : List Choice) → All (λ c. IsRight c.setting c.value) cs → (e : ExecutionRequest) × IsExecution (given_by cs) e
+execution_found cs right =
+    let first = seed_found (said seed cs) (said_right seed cs right) in
+    let second = steps_found (said steps cs) (said_right steps cs right) in (
+      record {
+        seed = first.0;
+        steps = second.0;
+        report = is_yes (said report cs);
+        in_range = machine_steps_within (said steps cs) second.0 second.1;
+      },
+      record { seed = first.1; steps = second.1; report = refl },
+    )
+
 asked_by : (a : Action) (cs : List Choice) → is_wanted (room_of a).number (said number cs) ≡ true → All (λ c. IsRight c.setting c.value) cs →
     (r : Request) × Asks a (given_by cs) r
 asked_by act.Check cs wanted right = (Check, refl)
@@ -158,6 +168,7 @@ asked_by act.Channels cs wanted right = let s = settings_found cs right in (Chan
 asked_by act.Convert cs wanted right = (Convert, refl)
 asked_by act.Verify cs wanted right = let s = settings_found cs right in (Verify s.0, (s.0, s.1, refl))
 asked_by act.Make cs wanted right = let m = made_found cs wanted right in (Make m.0, (m.0, m.1, refl))
+asked_by act.Cexec cs wanted right = let e = execution_found cs right in (Cexec e.0, (e.0, e.1, refl))
 
 run_found : (cs : List Choice) → All (λ c. IsRight c.setting c.value) cs → (r : RunRequest) × IsRun (given_by cs) r
 run_found cs right =
@@ -185,7 +196,7 @@ fitting : (room : Room) (cs : List Choice) → list_all (λ c. has room c.settin
 fitting room cs belong wanted =
     and_from _ _ (and_from _ _ (and_from _ _ (and_from _ _ (and_from _ _ (and_from _ _ (and_from _ _ wanted
     (said_allowed room seed cs belong)) (said_allowed room horizon cs belong)) (said_allowed room limit cs belong))
-    (said_allowed room workers cs belong)) refl) (flag_allowed room.report (said report cs) (said_allowed room report cs belong)))
+    (said_allowed room workers cs belong)) (said_allowed room steps cs belong)) (flag_allowed room.report (said report cs) (said_allowed room report cs belong)))
     (flag_allowed room.channels (said channels cs) (said_allowed room channels cs belong))
 
 pub in_order_ask : (words : List Text) (order : AreInOrder words) → (r : Request) × Ask words r × Asks order.action (given_by order.order.choices) r

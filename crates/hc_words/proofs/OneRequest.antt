@@ -1,16 +1,17 @@
 -- Words ask for one thing at most.
 use denote.Struct.Props.{props}
 use Rattle.std.proofs.Common.{◌≡◌, ◌≤◌, ℕ, Bool, List, slice_get, Option, Some, None, IsTrue, sym, ap, subst, ◌∙◌}
-use Rattle.hc_limits.specs.Limits.{most_pairs, most_steps, most_workers}
+use Rattle.hc_limits.specs.Limits.{most_pairs, most_steps, most_machine_steps, most_workers}
 use Rattle.clap.specs.Walk.{Text}
 use Rattle.hc_rational.specs.Words.{Rational, is_positive}
 use Rattle.hc_words.specs.declared.requests.Request.{Request}
-use Rattle.hc_words.specs.declared.requests.Request.TheVariants.{Simulate, Channels, Verify, Make}
+use Rattle.hc_words.specs.declared.requests.Request.TheVariants.{Simulate, Channels, Verify, Make, Cexec}
+use Rattle.hc_words.specs.declared.settings.ExecutionRequest.{ExecutionRequest}
 use Rattle.hc_words.specs.declared.settings.Made.{Made}
 use Rattle.hc_words.specs.declared.settings.RunRequest.{RunRequest}
 use Rattle.hc_words.specs.declared.settings.Settings.{Settings}
 use Rattle.hc_words.specs.Line.{Given, given}
-use Rattle.hc_words.specs.Requests.{IsHorizon, AreSettings, IsMade, Asks, Ask, AskRun}
+use Rattle.hc_words.specs.Requests.{IsHorizon, AreSettings, IsMade, IsExecution, Asks, Ask, AskRun}
 use Rattle.hc_words.specs.declared.actions.Action.{Action}
 use Rattle.hc_words.specs.declared.actions.Action.TheVariants as act
 use Rattle.hc_words.specs.Actions.{name_of_action}
@@ -68,6 +69,25 @@ same_made m u pairs seed = by m.pairs m.seed pairs seed m.in_range
 one_made : (g : Given) (m u : Made) → IsMade g m → IsMade g u → m ≡ u
 one_made g m u x y = same_made m u (one_value _ m.pairs u.pairs x.pairs y.pairs) (one_value _ m.seed u.seed x.seed y.seed)
 
+-- that the machine steps are in range is one fact
+one_length : (n : ℕ) (k l : (1 ≤ n) × (n ≤ most_machine_steps)) → k ≡ l
+one_length n = hlevel props
+
+same_execution : (e u : ExecutionRequest) → e.seed ≡ u.seed → e.steps ≡ u.steps → e.report ≡ u.report → e ≡ u
+same_execution e u seed steps report = by e.seed e.steps e.report seed steps report e.in_range
+  where
+    by : (s n : ℕ) (b : Bool) → s ≡ u.seed → n ≡ u.steps → b ≡ u.report → (l : (1 ≤ n) × (n ≤ most_machine_steps)) →
+        record { seed = s; steps = n; report = b; in_range = l } ≡ u
+    by s n b is_seed is_steps is_report =
+        let Same : ℕ → ℕ → Bool → Type 0 = λ s n b. (l : (1 ≤ n) × (n ≤ most_machine_steps)) → record { seed = s; steps = n; report = b; in_range = l } ≡ u in
+        let here : Same u.seed u.steps u.report =
+        λ l. ap (λ l. record { seed = u.seed; steps = u.steps; report = u.report; in_range = l }) (one_length u.steps l u.in_range) in
+        subst (λ s. Same s n b) (sym is_seed) (subst (λ n. Same u.seed n b) (sym is_steps) (subst (λ b. Same u.seed u.steps b) (sym is_report) here))
+
+one_execution : (g : Given) (e u : ExecutionRequest) → IsExecution g e → IsExecution g u → e ≡ u
+one_execution g e u x y =
+    same_execution e u (one_value _ e.seed u.seed x.seed y.seed) (one_value _ e.steps u.steps x.steps y.steps) (x.report ∙ sym y.report)
+
 -- that the workers are few is one fact
 one_few : (n : ℕ) (k l : (1 ≤ n) × (n ≤ most_workers)) → k ≡ l
 one_few n = hlevel props
@@ -93,6 +113,7 @@ one_asked act.Channels g r s x y = x.2 ∙ ap Channels (one_simulation g x.0 y.0
 one_asked act.Convert g r s x y = x ∙ sym y
 one_asked act.Verify g r s x y = x.2 ∙ ap Verify (one_simulation g x.0 y.0 x.1 y.1) ∙ sym y.2
 one_asked act.Make g r s x y = x.2 ∙ ap Make (one_made g x.0 y.0 x.1 y.1) ∙ sym y.2
+one_asked act.Cexec g r s x y = x.2 ∙ ap Cexec (one_execution g x.0 y.0 x.1 y.1) ∙ sym y.2
 
 pub one_request : (words : List Text) (r s : Request) → Ask words r → Ask words s → r ≡ s
 one_request words r s x y =

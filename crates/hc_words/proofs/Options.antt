@@ -5,7 +5,7 @@ use Rattle.clap.specs.Walk.{Rule}
 use Rattle.clap.specs.Simple.{Shape, built, filled, with_index}
 use Rattle.clap.proofs.OnLiterals.{clap_on_literals}
 use Rattle.hc_words.specs.Line.{hcsp, word_rule, option_rule, flag_rule}
-use Rattle.hc_words.specs.Order.{Setting, number, seed, horizon, limit, workers, report, channels, name_of, is_number, is_flag}
+use Rattle.hc_words.specs.Order.{Setting, number, seed, horizon, limit, workers, steps, report, channels, name_of, is_number, is_flag}
 use Rattle.hc_words.proofs.Uses.{first_use}
 use Rattle.hc_words.proofs.Steps.{IsFlag, IsOption, IsWord}
 
@@ -21,6 +21,7 @@ rule_at seed = filled (option_rule (codes "seed"))
 rule_at horizon = filled (option_rule (codes "horizon"))
 rule_at limit = filled (option_rule (codes "limit"))
 rule_at workers = filled (option_rule (codes "workers"))
+rule_at steps = filled (option_rule (codes "steps"))
 rule_at report = filled (flag_rule (codes "report"))
 rule_at channels = filled (flag_rule (codes "channels"))
 
@@ -90,6 +91,19 @@ workers_is_option = record {
   uses = λ v rows none. first_use (codes "workers") v rows none;
 }
 
+steps_is_option : IsOption shape (codes "steps") (rule_at steps)
+unfolding shape rule_at hcsp clap_on_literals
+steps_is_option = record {
+  by_long = refl;
+  by_id = refl;
+  takes = refl;
+  id = refl;
+  same = refl;
+  most = refl;
+  passes = λ v rows none. rw none refl;
+  uses = λ v rows none. first_use (codes "steps") v rows none;
+}
+
 report_is_flag : IsFlag shape (codes "report") (rule_at report)
 unfolding shape rule_at hcsp clap_on_literals
 report_is_flag = record {
@@ -114,6 +128,7 @@ is_option seed e f = seed_is_option
 is_option horizon e f = horizon_is_option
 is_option limit e f = limit_is_option
 is_option workers e f = workers_is_option
+is_option steps e f = steps_is_option
 is_option report e f = cc f
 is_option channels e f = cc f
 
@@ -123,5 +138,6 @@ is_flag_of seed e = cc e
 is_flag_of horizon e = cc e
 is_flag_of limit e = cc e
 is_flag_of workers e = cc e
+is_flag_of steps e = cc e
 is_flag_of report e = report_is_flag
 is_flag_of channels e = channels_is_flag

@@ -7,7 +7,7 @@ use Rattle.std.specs.List.{list_all}
 use Rattle.std.specs.Str.Parse.{digits_value}
 use Rattle.std.proofs.lemmas.Bool.{and_parts}
 use Rattle.std.proofs.lemmas.Fmt.{first_decimal}
-use Rattle.hc_limits.specs.Limits.{most_pairs, most_steps, most_workers}
+use Rattle.hc_limits.specs.Limits.{most_pairs, most_steps, most_machine_steps, most_workers}
 use Rattle.clap.specs.Walk.{Text}
 use Rattle.hc_rational.specs.Words.{Rational, is_positive, IsFrac}
 use Rattle.hc_rational.proofs.FitsLaws.{num_fits}
@@ -15,7 +15,7 @@ use Rattle.hc_frac.specs.Text.{text_of}
 use Rattle.hc_token.specs.declared.token.Token.{Token}
 use Rattle.hc_token.specs.Tokens.{tokens_of}
 use Rattle.hc_words.specs.Numbers.{is_digits, in_decimal, number_within, IsFractionText, fraction, decimal as of_decimal}
-use Rattle.hc_words.specs.Order.{Setting, number, seed, horizon, limit, workers, report, channels, IsRight}
+use Rattle.hc_words.specs.Order.{Setting, number, seed, horizon, limit, workers, steps, report, channels, IsRight}
 
 -- the text isn't empty, and doesn't begin with `-`
 abbrev pub BeginsPlain : Text → Type 0
@@ -82,5 +82,6 @@ right_plain seed t h = number_plain 0 18446744073709551615 h.0 t h.1
 right_plain horizon t h = fraction_plain t h.0 h.1 h.2
 right_plain limit t h = number_plain 1 most_steps h.0 t h.1
 right_plain workers t h = number_plain 1 most_workers h.0 t h.1
+right_plain steps t h = number_plain 1 most_machine_steps h.0 t h.1
 right_plain report t h = subst BeginsPlain (sym h) refl
 right_plain channels t h = subst BeginsPlain (sym h) refl

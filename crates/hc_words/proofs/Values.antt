@@ -16,7 +16,7 @@ use Rattle.clap.proofs.OnLiterals.{clap_on_literals}
 use Rattle.hc_words.specs.Line.{hcsp, flag_rule, given_in, is_yes}
 use Rattle.hc_words.specs.declared.actions.Room.{Room}
 use Rattle.hc_words.specs.Actions.{allows}
-use Rattle.hc_words.specs.Order.{Setting, number, seed, horizon, limit, workers, report, channels, name_of, Choice, IsRight, has, said}
+use Rattle.hc_words.specs.Order.{Setting, number, seed, horizon, limit, workers, steps, report, channels, name_of, Choice, IsRight, has, said}
 use Rattle.hc_words.proofs.Uses.{first_values}
 use Rattle.hc_words.proofs.Steps.{Reached}
 use Rattle.hc_words.proofs.Choices.{Leads, row_of_choice}
@@ -112,17 +112,13 @@ led_matches name x v words rows e led =
 
 -- ---- the values of choices
 
-pub passed_over : (id : Text) → ((k : Setting) → bytes_eq (name_of k) id ≡ false) → (cs : List Choice) (tail : List Row) →
-    first_of id (map row_of_choice cs ++ tail) ≡ first_of id tail
-passed_over id other [] tail = refl
-passed_over id other (c ∷ cs) tail = rw (other c.setting) (passed_over id other cs tail)
-
 -- the setting of a name
 setting_named : Text → Option Setting
 setting_named t =
     if bytes_eq t (codes "N") then Some number else (if bytes_eq t (codes "seed") then Some seed else (if bytes_eq t (codes "horizon") then Some horizon
     else (if bytes_eq t (codes "limit") then Some limit else (if bytes_eq t (codes "workers") then Some workers
-    else (if bytes_eq t (codes "report") then Some report else (if bytes_eq t (codes "channels") then Some channels else None))))))
+    else (if bytes_eq t (codes "steps") then Some steps else (if bytes_eq t (codes "report") then Some report
+    else (if bytes_eq t (codes "channels") then Some channels else None)))))))
 
 its_name : (k : Setting) → setting_named (name_of k) ≡ Some k
 unfolding setting_named
@@ -131,6 +127,7 @@ its_name seed = refl
 its_name horizon = refl
 its_name limit = refl
 its_name workers = refl
+its_name steps = refl
 its_name report = refl
 its_name channels = refl
 

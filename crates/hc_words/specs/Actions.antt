@@ -2,7 +2,7 @@
 use Rattle.std.specs.Prelude.{Bool, true, false, not, ◌&&◌, ◌||◌, Option, Some, None, codes}
 use Rattle.clap.specs.Walk.{Text}
 use Rattle.hc_words.specs.declared.actions.Action.{Action}
-use Rattle.hc_words.specs.declared.actions.Action.TheVariants.{Check, Print, Simulate, Channels, Convert, Verify, Make}
+use Rattle.hc_words.specs.declared.actions.Action.TheVariants.{Check, Print, Simulate, Channels, Convert, Verify, Make, Cexec}
 use Rattle.hc_words.specs.declared.actions.Room.{Room}
 use Rattle.hc_words.specs.Line.{Given}
 
@@ -14,6 +14,7 @@ name_of_action Channels = codes "channels"
 name_of_action Convert = codes "convert"
 name_of_action Verify = codes "verify"
 name_of_action Make = codes "make"
+name_of_action Cexec = codes "cexec"
 
 abbrev pub nothing : Room
 nothing = record { number = false; seed = false; horizon = false; limit = false; workers = false; steps = false; report = false; channels = false }
@@ -27,6 +28,7 @@ room_of Channels = record nothing { seed = true; horizon = true; limit = true }
 room_of Convert = nothing
 room_of Verify = record nothing { seed = true; horizon = true; limit = true }
 room_of Make = record nothing { number = true; seed = true }
+room_of Cexec = record nothing { seed = true; steps = true; report = true }
 
 -- the one action of the call that runs on threads, and its row
 abbrev pub name_of_run : Text

@@ -2,7 +2,7 @@
 use Rattle.std.specs.Prelude.{◌≡◌, ℕ, Bool, true, false, not, ◌&&◌, List, [], ◌∷◌, ◌++◌, flat_map, Option, Some, None, codes, IsTrue, if◌then◌else◌}
 use Rattle.std.specs.List.{All, list_all}
 use Rattle.std.specs.Str.{bytes_eq}
-use Rattle.hc_limits.specs.Limits.{most_pairs, most_steps, most_workers}
+use Rattle.hc_limits.specs.Limits.{most_pairs, most_steps, most_machine_steps, most_workers}
 use Rattle.clap.specs.Walk.{Text}
 use Rattle.hc_rational.specs.Words.{Rational, is_positive}
 use Rattle.hc_words.specs.declared.actions.Action.{Action}
@@ -18,6 +18,7 @@ pub data Setting : Type 0 where
   horizon : Setting
   limit : Setting
   workers : Setting
+  steps : Setting
   report : Setting
   channels : Setting
 
@@ -27,6 +28,7 @@ name_of seed = codes "seed"
 name_of horizon = codes "horizon"
 name_of limit = codes "limit"
 name_of workers = codes "workers"
+name_of steps = codes "steps"
 name_of report = codes "report"
 name_of channels = codes "channels"
 
@@ -63,6 +65,7 @@ IsRight seed t = (n : ℕ) × (number_within 0 18446744073709551615 t ≡ Some n
 IsRight horizon t = (q : Rational) × IsFractionText t q × IsTrue (is_positive q)
 IsRight limit t = (n : ℕ) × (number_within 1 most_steps t ≡ Some n)
 IsRight workers t = (n : ℕ) × (number_within 1 most_workers t ≡ Some n)
+IsRight steps t = (n : ℕ) × (number_within 1 most_machine_steps t ≡ Some n)
 IsRight report t = t ≡ codes "true"
 IsRight channels t = t ≡ codes "true"
 
@@ -81,6 +84,7 @@ has room seed = room.seed
 has room horizon = room.horizon
 has room limit = room.limit
 has room workers = room.workers
+has room steps = room.steps
 has room report = room.report
 has room channels = room.channels
 
@@ -117,7 +121,7 @@ given_by cs = record {
   horizon = said horizon cs;
   limit = said limit cs;
   workers = said workers cs;
-  steps = None;
+  steps = said steps cs;
   report = is_yes (said report cs);
   channels = is_yes (said channels cs);
 }

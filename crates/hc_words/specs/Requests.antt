@@ -1,13 +1,14 @@
 -- What the words of a call ask for.
 use Rattle.std.specs.Prelude.{◌≡◌, ℕ, List, Option, Some, None, pos, slice_get, IsTrue}
-use Rattle.hc_limits.specs.Limits.{most_pairs, most_steps, most_workers, default_steps, default_horizon}
+use Rattle.hc_limits.specs.Limits.{most_pairs, most_steps, most_machine_steps, most_workers, default_steps, default_machine_steps, default_horizon}
 use Rattle.clap.specs.Walk.{Text}
 use Rattle.hc_rational.specs.Words.{Rational, is_positive}
 use Rattle.hc_rational.specs.Rational.{whole}
 use Rattle.hc_words.specs.declared.actions.Action.{Action}
 use Rattle.hc_words.specs.declared.actions.Action.TheVariants as act
 use Rattle.hc_words.specs.declared.requests.Request.{Request}
-use Rattle.hc_words.specs.declared.requests.Request.TheVariants.{Check, Print, Simulate, Channels, Convert, Verify, Make}
+use Rattle.hc_words.specs.declared.requests.Request.TheVariants.{Check, Print, Simulate, Channels, Convert, Verify, Make, Cexec}
+use Rattle.hc_words.specs.declared.settings.ExecutionRequest.{ExecutionRequest}
 use Rattle.hc_words.specs.declared.settings.Made.{Made}
 use Rattle.hc_words.specs.declared.settings.RunRequest.{RunRequest}
 use Rattle.hc_words.specs.declared.settings.Settings.{Settings}
@@ -46,6 +47,17 @@ pub record IsMade (g : Given) (m : Made) : Type 0 where
   pub pairs : pairs_in g.number ≡ Some m.pairs
   pub seed : seed_in g.seed ≡ Some m.seed
 
+-- the steps of the thread machine: 100,000 where they aren't given, and 1 to 10,000,000
+abbrev pub machine_steps_in : Option Text → Option ℕ
+machine_steps_in None = Some default_machine_steps
+machine_steps_in (Some t) = number_within 1 most_machine_steps t
+
+-- this is the execution on the thread machine that is to be made
+pub record IsExecution (g : Given) (e : ExecutionRequest) : Type 0 where
+  pub seed : seed_in g.seed ≡ Some e.seed
+  pub steps : machine_steps_in g.steps ≡ Some e.steps
+  pub report : e.report ≡ g.report
+
 -- what an action asks for, by the values that stand behind it
 abbrev pub Asks : Action → Given → Request → Type 0
 Asks act.Check g r = r ≡ Check
@@ -55,6 +67,7 @@ Asks act.Channels g r = (s : Settings) × AreSettings g s × (r ≡ Channels s)
 Asks act.Convert g r = r ≡ Convert
 Asks act.Verify g r = (s : Settings) × AreSettings g s × (r ≡ Verify s)
 Asks act.Make g r = (m : Made) × IsMade g m × (r ≡ Make m)
+Asks act.Cexec g r = (e : ExecutionRequest) × IsExecution g e × (r ≡ Cexec e)
 
 -- the words ask for this: clap takes them, and behind the program's name stands an action with what belongs to it
 pub record Ask (words : List Text) (request : Request) : Type 0 where

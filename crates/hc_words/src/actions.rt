@@ -17,6 +17,7 @@ pub enum Action {
     Convert,
     Verify,
     Make,
+    Cexec,
 }
 
 /// What stands behind an action: N where it must, each option and each flag where they may.
@@ -67,6 +68,7 @@ pub(crate) fn action_named(name: &str) -> Option<Action>
         "convert" => Some(Action::Convert),
         "verify" => Some(Action::Verify),
         "make" => Some(Action::Make),
+        "cexec" => Some(Action::Cexec),
         _ => None,
     }
 }
@@ -86,6 +88,12 @@ fn room_of(action: Action) -> Room
         Action::Make => Room {
             number: true,
             seed: true,
+            ..NOTHING
+        },
+        Action::Cexec => Room {
+            seed: true,
+            steps: true,
+            report: true,
             ..NOTHING
         },
     }

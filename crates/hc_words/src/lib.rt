@@ -12,4 +12,4 @@ mod settings;
 pub use laws::call_laws;
 pub use requests::{Request, WordsStop, asked_for};
 pub use running::asked_to_run;
-pub use settings::{Made, RunRequest, Settings};
+pub use settings::{ExecutionRequest, Made, RunRequest, Settings};

@@ -8,15 +8,19 @@ ghost use Rattle.hc_rational.specs.Words.{Rational};
 ghost use Rattle.hc_words.specs.Requests as spec;
 ghost use Rattle.hc_words.specs.Seen.{seen, IsRequested};
 ghost use Rattle.hc_words.specs.declared.requests.Request as asked;
+ghost use Rattle.hc_words.specs.declared.settings.ExecutionRequest as execute;
 ghost use Rattle.hc_words.specs.declared.settings.Made as make;
 ghost use Rattle.hc_words.specs.declared.settings.Settings as set;
 
 use crate::actions::{Action, action_named, belongs};
 use crate::line::{Given, read_words};
 use crate::numbers::{number_within, positive_fraction};
-use crate::settings::{Made, Settings};
+use crate::settings::{ExecutionRequest, Made, Settings};
 use hc_frac::Frac;
-use hc_limits::{DEFAULT_HORIZON, DEFAULT_STEPS, MOST_PAIRS, MOST_STEPS};
+use hc_limits::{
+    DEFAULT_HORIZON, DEFAULT_MACHINE_STEPS, DEFAULT_STEPS, MOST_MACHINE_STEPS, MOST_PAIRS,
+    MOST_STEPS,
+};
 use std::alloc::Global;
 
 /// What the words ask for.
@@ -36,6 +40,8 @@ pub enum Request {
     Verify(Settings),
     /// To make a source, simulate it, and tell the size of its run.
     Make(Made),
+    /// To execute the C text that is read on the thread machine.
+    Cexec(ExecutionRequest),
 }
 
 /// Why the words ask for nothing.
@@ -96,6 +102,10 @@ fn request_by(action: Action, given: &Given<'_>) -> Option<Request>
             let made = made_of(given)?;
             Some(Request::Make(made))
         }
+        Action::Cexec => {
+            let execution = execution_of(given)?;
+            Some(Request::Cexec(execution))
+        }
     }
 }
 
@@ -122,6 +132,32 @@ fn made_of(given: &Given<'_>) -> Option<Made>
     let pairs = pairs_of(given.number)?;
     let seed = seed_of(given.seed)?;
     Some(Made { pairs, seed })
+}
+
+/// The execution that is given: the seed where it isn't 0, the steps where they aren't their default, and the flag.
+fn execution_of(given: &Given<'_>) -> Option<ExecutionRequest>
+    ensures some { IfSome result (spec.IsExecution (seen given.now)) }
+    ensures none { result ≡ None → (e : execute.ExecutionRequest) → spec.IsExecution (seen given.now) e → ⊥ }
+{
+    let seed = seed_of(given.seed)?;
+    let steps = machine_steps_of(given.steps)?;
+    Some(ExecutionRequest {
+        seed,
+        steps,
+        report: given.report,
+    })
+}
+
+fn machine_steps_of(text: Option<&str>) -> Option<u32>
+    ensures { result ≡ spec.machine_steps_in (option_map (λ s. s.now) text.entry) }
+{
+    match text {
+        Some(text) => match number_within(1, MOST_MACHINE_STEPS as u64, text) {
+            Some(steps) => Some(steps as u32),
+            None => None,
+        },
+        None => Some(DEFAULT_MACHINE_STEPS),
+    }
 }
 
 fn pairs_of(text: Option<&str>) -> Option<u32>

@@ -1,7 +1,7 @@
 //! What requests set.
 
 ghost use Rattle.std.specs.Prelude.{◌≤◌, IsTrue};
-ghost use Rattle.hc_limits.specs.Limits.{most_pairs, most_steps, most_workers};
+ghost use Rattle.hc_limits.specs.Limits.{most_machine_steps, most_pairs, most_steps, most_workers};
 ghost use Rattle.hc_rational.specs.Words.{is_positive};
 
 use hc_frac::Frac;
@@ -27,6 +27,18 @@ pub struct Made {
     /// It draws what varies in the source.
     pub seed: u64,
     pub ghost in_range: { (1 ≤ pairs) × (pairs ≤ most_pairs) },
+}
+
+/// An execution on the thread machine.
+#[derive(Clone, Copy, Debug, PartialEq, Eq)]
+pub struct ExecutionRequest {
+    /// It draws the schedule.
+    pub seed: u64,
+    /// The machine steps to which the execution is limited, 1 to 10,000,000.
+    pub steps: u32,
+    /// Whether the number of moves is told.
+    pub report: bool,
+    pub ghost in_range: { (1 ≤ steps) × (steps ≤ most_machine_steps) },
 }
 
 /// A run on threads.

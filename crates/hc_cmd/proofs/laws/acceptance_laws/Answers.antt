@@ -8,6 +8,8 @@ use Rattle.hc_det.specs.Text.{channels_text}
 use Rattle.hc_cmd.specs.Traced.{Converts, Judges}
 use Rattle.hc_cmd.proofs.OneReply.{Decided, text_accepted, task_tells, made_tells}
 use Rattle.hc_cmd.proofs.OneTraced.{one_answer, traced_there, judged_so, first_part_so}
+use Rattle.hc_cmd.proofs.CTexts.{program_there}
+use Rattle.hc_cmd.proofs.Executions.{tells_schedule}
 use Rattle.hc_cmd.proofs.RunReplies.{run_tells, run_lists}
 use Rattle.hc_cmd.proofs.laws.acceptance_laws.Goals as goal
 
@@ -27,6 +29,9 @@ returns c =
       one_line = c.reading_laws.ensures.one_refusal;
       trace_not_refused = c.reading_laws.ensures.not_refused;
       one_verdict = c.verdict_laws.ensures.one;
+      one_program = c.text_laws-2.ensures.one_program;
+      one_c_refusal = c.text_laws-2.ensures.one_refusal;
+      program_not_refused = c.text_laws-2.ensures.not_refused;
     } in
     record {
       one_system = λ text s t a b.
@@ -48,6 +53,8 @@ returns c =
           (drop is.place text) is.traced words;
       made = λ made text system reply accepted a.
           made_tells c.step_laws.ensures.canonical made system reply (text_accepted decided _ _ system reply accepted a);
+      executed = λ asked text g reply is a.
+          tells_schedule g c.items.ensures.lines asked reply (program_there decided _ text g reply is a);
       run = λ asked text system reply accepted a. run_tells asked system reply (text_accepted decided _ text system reply accepted a);
       no_schedule = λ asked text system task reply other accepted single parts settled channels r s.
           run_lists c.step_laws.ensures.canonical c.channel_laws.ensures asked system task reply other single parts settled channels

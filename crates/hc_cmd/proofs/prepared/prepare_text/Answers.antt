@@ -24,5 +24,9 @@ pub returns-in-Verify : goal.returns-in-Verify
 returns-in-Verify c =
     subst (λ (r : Request). Prepares (Answers r c.args.text.now) c.prepare_verdict.result) (sym c.in-Verify.is) c.prepare_verdict.ensures
 
+pub returns-in-Cexec : goal.returns-in-Cexec
+returns-in-Cexec c =
+    subst (λ (r : Request). Prepares (Answers r c.args.text.now) c.prepare_execution.result) (sym c.in-Cexec.is) c.prepare_execution.ensures
+
 pub returns-in-Make : goal.returns-in-Make
 returns-in-Make c = subst (λ (r : Request). Prepares (Answers r c.args.text.now) c.prepare_made.result) (sym c.in-Make.is) c.prepare_made.ensures

@@ -1,6 +1,6 @@
 use Rattle.std.proofs.Common.{refl, sym, subst}
 use Rattle.hc_words.specs.declared.actions.Action.{Action}
-use Rattle.hc_words.specs.declared.requests.Request.TheVariants.{Simulate, Channels, Verify, Make}
+use Rattle.hc_words.specs.declared.requests.Request.TheVariants.{Simulate, Channels, Verify, Make, Cexec}
 use Rattle.hc_words.specs.Requests.{Asks}
 use Rattle.hc_words.specs.Seen.{seen}
 use Rattle.hc_words.proofs.requests.request_by.Goals as goal
@@ -24,3 +24,8 @@ pub returns-in_ok-made-in-Make-clause-some : goal.returns-in_ok-made-in-Make-cla
 returns-in_ok-made-in-Make-clause-some c =
     let made = c.in_ok-made-in-Make.made in
     subst (λ (a : Action). Asks a (seen c.args.given.now) (Make made)) (sym c.in-Make.is) (made, c.in_ok-made-in-Make.ensures.some, refl)
+
+pub returns-in_ok-execution-in-Cexec-clause-some : goal.returns-in_ok-execution-in-Cexec-clause-some
+returns-in_ok-execution-in-Cexec-clause-some c =
+    let execution = c.in_ok-execution-in-Cexec.execution in
+    subst (λ (a : Action). Asks a (seen c.args.given.now) (Cexec execution)) (sym c.in-Cexec.is) (execution, c.in_ok-execution-in-Cexec.ensures.some, refl)
