@@ -10,7 +10,8 @@ pub(crate) struct Asked {
     pub(crate) other: Option<Vec<u8>>,
 }
 
-fn text_of(alloc: Global, row: &str) -> Result<Vec<u8>, AllocError> {
+/// The bytes of a text as a row writes it.
+pub(crate) fn text_of(alloc: Global, row: &str) -> Result<Vec<u8>, AllocError> {
     bytes_of(alloc, repeated(alloc, row)?.as_str())
 }
 

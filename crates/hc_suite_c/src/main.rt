@@ -1,14 +1,16 @@
 //! Answers rows of questions about texts of the subset of C, one a line: which program they are, or where they are refused, whether two
-//! are the same program, how it is written; and about the lines of the prelude.
+//! are the same program, how it is written, what it does on the thread machine; and about the lines of the prelude.
 #![tactic(auto)]
 
 mod asking;
+mod executing;
 mod prelude_lines;
 mod reading;
 mod showing;
 mod texts;
 
 use asking::Asked;
+use executing::executed;
 use prelude_lines::prelude_line;
 use reading::{compared, read_unit, read_whole, written};
 use std::alloc::{AllocError, Global};
@@ -26,9 +28,10 @@ fn answer_to_question(alloc: Global, kind: &str, asked: &Asked) -> Result<String
     }
 }
 
-/// The answer to a row `KIND | TEXT` or `KIND | TEXT ~ TEXT`. Any other line stands for itself.
+/// The answer to a row `KIND | TEXT`, `KIND | TEXT ~ TEXT` or `exec | SEED STEPS | UNIT`. Any other line stands for itself.
 fn answer_to(alloc: Global, line: &str) -> Result<String, AllocError> {
     match line.split_once(" | ") {
+        Some(("exec", row)) => executed(alloc, row),
         Some((kind, texts)) => {
             let asked = Asked::of_row(alloc, texts)?;
             answer_to_question(alloc, kind, &asked)

@@ -12,7 +12,7 @@ use hc_limits::MOST_TEXT_BYTES;
 use std::alloc::{AllocError, Global};
 
 /// The program of a text, or why it is none; `None` for a longer text than may be read.
-fn read(alloc: Global, text: &[u8]) -> Option<Result<CProgram, CStop>>
+pub(crate) fn read(alloc: Global, text: &[u8]) -> Option<Result<CProgram, CStop>>
     ensures { IfSome result (λ answer. IfOk answer (IsCText text.now)) }
 {
     if text.len() > MOST_TEXT_BYTES {
@@ -22,7 +22,7 @@ fn read(alloc: Global, text: &[u8]) -> Option<Result<CProgram, CStop>>
 }
 
 /// The prelude with a unit behind it.
-fn behind_prelude(alloc: Global, unit: &[u8]) -> Result<Vec<u8>, AllocError> {
+pub(crate) fn behind_prelude(alloc: Global, unit: &[u8]) -> Result<Vec<u8>, AllocError> {
     let mut text = Vec::new(alloc);
     text.extend_from_slice(PRELUDE)?;
     text.extend_from_slice(unit)?;
@@ -74,7 +74,7 @@ pub(crate) fn written(alloc: Global, unit: &[u8]) -> Result<String, AllocError> 
 }
 
 /// A text with `\n` for each newline.
-fn on_one_line(alloc: Global, text: &str) -> Result<String, AllocError> {
+pub(crate) fn on_one_line(alloc: Global, text: &str) -> Result<String, AllocError> {
     let mut line = String::new(alloc);
     for part in text.lines() {
         line.push_str(part)?;

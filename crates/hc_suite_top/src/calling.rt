@@ -2,6 +2,7 @@
 
 use crate::reports::report_shown;
 use crate::worlds::World;
+use hc_cgrammar::PRELUDE;
 use hc_cmd::{answer, answer_run};
 use hc_run::OpenGate;
 use hc_world::{MemSink, MemSource};
@@ -29,10 +30,20 @@ fn blanks_before(text: &str) -> (usize, &str) {
     (0, text)
 }
 
-/// The bytes of a source. ` 5 blanks` begins with so many blanks; `\n` is a newline.
+/// What stands in front of a source, where its row says so: so many blanks (`5 blanks`), or the prelude of C texts (`prelude`).
+fn front_of(alloc: Global, text: &str) -> Result<(Vec<u8>, &str), AllocError> {
+    if let Some(unit) = text.strip_prefix("prelude ") {
+        let mut front = Vec::new(alloc);
+        front.extend_from_slice(PRELUDE)?;
+        return Ok((front, unit));
+    }
+    let (count, rest) = blanks_before(text);
+    Ok((vec![in alloc; b' '; count]?, rest))
+}
+
+/// The bytes of a source: what stands in front of it, and then the row's text, in which `\n` is a newline.
 pub(crate) fn source_of(alloc: Global, text: &str) -> Result<Vec<u8>, AllocError> {
-    let (count, rest) = blanks_before(text.strip_prefix(' ').unwrap_or(text));
-    let mut bytes = vec![in alloc; b' '; count]?;
+    let (mut bytes, rest) = front_of(alloc, text.strip_prefix(' ').unwrap_or(text))?;
     let rest = rest.replace(alloc, "\\n", "\n")?;
     bytes.extend_from_slice(rest.as_bytes())?;
     Ok(bytes)
