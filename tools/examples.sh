@@ -1,6 +1,7 @@
 #!/usr/bin/env bash
-# Runs each example as its first line says (`# hcsp WORDS`), and compares what stands on output with NAME.trace or
-# NAME.verdict, or on error with NAME.refusal. The last line is 'N examples, M differ'; the status is 1 where one differs.
+# Runs each example as its first line says (`# hcsp WORDS`), and each text of C by `cexec`, and compares what stands on output
+# with NAME.trace or NAME.verdict, or on error with NAME.refusal. The last line is 'N examples, M differ'; the status is 1 where
+# one differs.
 set -u
 home=$(cd "$(dirname "$(readlink -f "$0")")/.." && pwd)
 out=$(mktemp)
@@ -8,11 +9,12 @@ err=$(mktemp)
 trap 'rm -f "$out" "$err"' EXIT
 all=0
 wrong=0
-for source in "$home"/examples/*.hcsp; do
-  read -r -a words < <(sed -n '1s/^# hcsp //p' "$source")
+for source in "$home"/examples/*.hcsp "$home"/examples/*.c; do
+  words=(cexec)
+  [ "${source##*.}" = c ] || read -r -a words < <(sed -n '1s/^# hcsp //p' "$source")
   "$home/hcsp" "${words[@]}" < "$source" > "$out" 2> "$err"
   status=$?
-  name=${source%.hcsp}
+  name=${source%.*}
   if [ -f "$name.refusal" ]; then
     cmp -s "$err" "$name.refusal" && [ ! -s "$out" ] && [ "$status" = 1 ]
   elif [ -f "$name.verdict" ]; then

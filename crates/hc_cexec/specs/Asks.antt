@@ -1,6 +1,7 @@
 -- What a thread asks for at a node: in the words of the code, with nothing of what the places stand for.
 use Rattle.std.specs.Prelude.{◌≡◌, ◌≤◌, ℕ, Bool, true, false, if◌then◌else◌, List, [], ◌∷◌, ◌++◌, length, take, slice_get, ℤ, pos, unsigned_abs, Option, Some, None, Ok, Err}
 use Rattle.std.specs.Ordering.{int_eq}
+use Rattle.hc_rational.specs.Words.{Rational}
 use Rattle.hc_cast.specs.declared.primitive.Primitive.{Primitive}
 use Rattle.hc_cast.specs.declared.primitive.Primitive.TheVariants.{FrSet}
 use Rattle.hc_cmach.specs.declared.kind.Kind.TheVariants.{Index, Unlocked, NoValue}
@@ -13,12 +14,14 @@ use Rattle.hc_ccode.specs.declared.code.Node.TheVariants as node
 use Rattle.hc_cprim.specs.Worth.{worth_at, worths_at}
 use Rattle.hc_cprim.specs.Deeds.{IsDeedOf}
 use Rattle.hc_cprim.specs.declared.deed.Seat.{Seat}
+use Rattle.hc_cprim.specs.declared.deed.Way.{Way}
 use Rattle.hc_cprim.specs.declared.deed.Way.TheVariants as way
 use Rattle.hc_cprim.specs.declared.deed.Deed.{Deed}
 use Rattle.hc_cprim.specs.declared.deed.Deed.TheVariants as deed
 use Rattle.hc_cexec.specs.declared.activation.Activation.{Activation}
 use Rattle.hc_cexec.specs.declared.thread.Thread.{Thread}
 use Rattle.hc_cexec.specs.declared.asked.Act.TheVariants as act
+use Rattle.hc_cexec.specs.declared.asked.Then.{Then}
 use Rattle.hc_cexec.specs.declared.asked.Then.TheVariants as then
 use Rattle.hc_cexec.specs.declared.asked.Asked.{Asked}
 use Rattle.hc_cexec.specs.declared.asked.Asked.TheVariants as asked
@@ -86,13 +89,17 @@ enters function result next (Ok zs) = asked.Does act.Goes (then.Into function re
 
 -- ---- primitives
 
+-- a register of a row becomes a value
+abbrev pub puts : Way → ℕ → Rational → Then → Asked
+puts way.Its d v x = asked.Does (act.PutsOwn d v) x
+puts way.Common d v x = asked.Does (act.PutsCommon d v) x
+puts (way.Beyond k) d v x = asked.Fails k
+
 abbrev pub done : Deed → Option ℕ → ℕ → Asked
 done (deed.Fails k) result next = asked.Fails k
 done (deed.Divides r b k) result next = asked.Divides r b k
 done (deed.Gives z) result next = asked.Does act.Goes (then.On result z next)
-done (deed.Puts way.Its d v z) result next = asked.Does (act.PutsOwn d v) (then.On result z next)
-done (deed.Puts way.Common d v z) result next = asked.Does (act.PutsCommon d v) (then.On result z next)
-done (deed.Puts (way.Beyond k) d v z) result next = asked.Fails k
+done (deed.Puts w d v z) result next = puts w d v (then.On result z next)
 done (deed.Prints l) result next = asked.Does (act.Prints l) (then.On result (pos 0) next)
 done deed.Locks result next = asked.Does act.Locks (then.On result (pos 0) next)
 done deed.Unlocks result next = asked.Does act.Unlocks (then.On result (pos 0) next)

@@ -4,6 +4,7 @@ pub mod Asks
 pub mod Goes
 pub mod Means
 pub mod Opening
+pub mod Sights
 pub mod Stands
 pub mod Taken
 pub mod Told

@@ -2,8 +2,11 @@
 
 ghost use Rattle.std.specs.Prelude.{◌≡◌, ◌≤◌, [], length, slice_get, Some, Ok};
 ghost use Rattle.hc_cmach.specs.Expression.{together};
-ghost use Rattle.hc_cexec.specs.Asks.{AsksAt, AsksFor, Calls, PerformsWith, SetsLiteral, view_of, all_valued};
+ghost use Rattle.hc_cexec.specs.Asks.{AsksAt, AsksFor, Calls, PerformsWith, SetsLiteral, all_valued};
+ghost use Rattle.hc_cprim.specs.Worth.{Works};
 ghost use Rattle.hc_cexec.specs.Asks as spec;
+ghost use Rattle.hc_cexec.specs.Sights.{view};
+ghost use Rattle.hc_cexec.specs.declared.asked.Then.TheVariants as then;
 
 use crate::activation::Activation;
 use crate::asked::{Act, Asked, Then};
@@ -14,6 +17,7 @@ use hc_cmach::Kind;
 use hc_cprim::{
     Arrays, Deed, Numbers, Primitives, Seat, Way, literal, primitive, value_of, values_of,
 };
+use hc_frac::Frac;
 
 /// To go on at a place, and no more.
 fn lead(place: usize) -> Asked
@@ -143,15 +147,44 @@ fn end(gives: bool) -> Asked
     }
 }
 
+/// Behind the call of a primitive, whose result a local may take.
+fn behind(target: Option<usize>, value: i64, place: usize) -> Then
+    ensures { result ≡ then.On target value place }
+{
+    Then::On {
+        result: target,
+        value,
+        place,
+    }
+}
+
+/// To put a value into a register of a row that is reached.
+fn put(row: &Way, register: usize, value: &Frac, then: Then) -> Asked
+    ensures { result ≡ spec.puts row.now register value.now then }
+{
+    match row {
+        Way::Its => Asked::Does(
+            Act::PutsOwn {
+                register,
+                value: *value,
+            },
+            then,
+        ),
+        Way::Common => Asked::Does(
+            Act::PutsCommon {
+                register,
+                value: *value,
+            },
+            then,
+        ),
+        Way::Beyond(kind) => Asked::Fails(*kind),
+    }
+}
+
 /// What a primitive's deed asks for, with the local that takes its result and the place behind it.
 fn done(deed: &Deed, target: Option<usize>, place: usize) -> Asked
     ensures { result ≡ spec.done deed.now target place }
 {
-    let behind = Then::On {
-        result: target,
-        value: 0,
-        place,
-    };
     match deed {
         Deed::Fails(kind) => Asked::Fails(*kind),
         Deed::Divides {
@@ -163,57 +196,61 @@ fn done(deed: &Deed, target: Option<usize>, place: usize) -> Asked
             register: *register,
             kind: *kind,
         },
-        Deed::Gives(value) => Asked::Does(
-            Act::Goes,
-            Then::On {
-                result: target,
-                value: *value,
-                place,
-            },
-        ),
+        Deed::Gives(value) => Asked::Does(Act::Goes, behind(target, *value, place)),
         Deed::Puts {
             row,
             register,
             value,
             gives,
-        } => {
-            let then = Then::On {
-                result: target,
-                value: *gives,
-                place,
-            };
-            match row {
-                Way::Its => Asked::Does(
-                    Act::PutsOwn {
-                        register: *register,
-                        value: *value,
-                    },
-                    then,
-                ),
-                Way::Common => Asked::Does(
-                    Act::PutsCommon {
-                        register: *register,
-                        value: *value,
-                    },
-                    then,
-                ),
-                Way::Beyond(kind) => Asked::Fails(*kind),
-            }
-        }
-        Deed::Prints(line) => Asked::Does(Act::Prints(*line), behind),
-        Deed::Locks => Asked::Does(Act::Locks, behind),
-        Deed::Unlocks => Asked::Does(Act::Unlocks, behind),
-        Deed::Waits(on) => Asked::Does(Act::Waits(*on), behind),
-        Deed::Wakes(on) => Asked::Does(Act::Wakes(*on), behind),
+        } => put(row, *register, value, behind(target, *gives, place)),
+        Deed::Prints(line) => Asked::Does(Act::Prints(*line), behind(target, 0, place)),
+        Deed::Locks => Asked::Does(Act::Locks, behind(target, 0, place)),
+        Deed::Unlocks => Asked::Does(Act::Unlocks, behind(target, 0, place)),
+        Deed::Waits(on) => Asked::Does(Act::Waits(*on), behind(target, 0, place)),
+        Deed::Wakes(on) => Asked::Does(Act::Wakes(*on), behind(target, 0, place)),
+    }
+}
+
+/// What a step looks at: the thread's place, the arrays, and the body at hand.
+#[derive(Clone, Copy)]
+struct Sight<'a> {
+    seat: &'a Seat<'a>,
+    arrays: &'a Arrays,
+    body: &'a Activation,
+}
+
+impl Sight<'_> {
+    /// The value of a formula.
+    fn value(&self, formula: &Formula) -> Result<i64, Kind>
+        ensures { result ≡ spec.valued (view self.now) formula.now }
+    {
+        value_of(
+            formula,
+            self.body.values.as_slice(),
+            self.seat.owns,
+            self.arrays,
+        )
+    }
+
+    /// The values of several, in front there; or the first kind for which there is none.
+    fn values(&self, formulas: &[Formula], there: &mut Numbers) -> Result<(), Kind>
+        ensures kept { length there.new ≡ length there.old }
+        ensures works { length formulas.now ≤ length there.old → Works (all_valued (view self.now) formulas.now) (length formulas.now) there.new result }
+    {
+        values_of(
+            formulas,
+            self.body.values.as_slice(),
+            self.seat.owns,
+            self.arrays,
+            there,
+        )
     }
 }
 
 /// To call a primitive.
 fn ask_primitive<R: Primitives>(
     by: &mut R,
-    seat: &Seat<'_>,
-    arrays: &Arrays,
-    body: &Activation,
+    sight: &Sight<'_>,
     called: Primitive,
     arguments: &[Formula],
     target: Option<usize>,
@@ -221,11 +258,11 @@ fn ask_primitive<R: Primitives>(
     there: &mut Numbers,
 ) -> Asked
     ensures kept { length there.new ≡ length there.old }
-    ensures asks { length arguments.now ≤ length there.old → PerformsWith seat.now called (all_valued (view_of seat.now arrays.now body.now) arguments.now) target next result }
+    ensures asks { length arguments.now ≤ length there.old → PerformsWith sight.now.seat.now called (all_valued (view sight.now) arguments.now) target next result }
 {
-    match values_of(arguments, body.values.as_slice(), seat.owns, arrays, there) {
+    match sight.values(arguments, there) {
         Ok(()) => {
-            let deed = primitive(by, seat, called, there.first(arguments.len()));
+            let deed = primitive(by, sight.seat, called, there.first(arguments.len()));
             done(&deed, target, next)
         }
         Err(kind) => Asked::Fails(kind),
@@ -255,9 +292,7 @@ fn ask_literal(
 
 /// To call a function.
 fn ask_call(
-    seat: &Seat<'_>,
-    arrays: &Arrays,
-    body: &Activation,
+    sight: &Sight<'_>,
     function: usize,
     arguments: &[Formula],
     target: Option<usize>,
@@ -265,9 +300,9 @@ fn ask_call(
     there: &mut Numbers,
 ) -> Asked
     ensures kept { length there.new ≡ length there.old }
-    ensures asks { length arguments.now ≤ length there.old → Calls (view_of seat.now arrays.now body.now) function arguments.now target next there.new result }
+    ensures asks { length arguments.now ≤ length there.old → Calls (view sight.now) function arguments.now target next there.new result }
 {
-    match values_of(arguments, body.values.as_slice(), seat.owns, arrays, there) {
+    match sight.values(arguments, there) {
         Ok(()) => Asked::Does(
             Act::Goes,
             Then::Into {
@@ -281,20 +316,13 @@ fn ask_call(
 }
 
 /// What is asked for at a node. Where it is a call, the values of the arguments are worked out there.
-fn ask_at<R: Primitives>(
-    by: &mut R,
-    seat: &Seat<'_>,
-    arrays: &Arrays,
-    body: &Activation,
-    node: &Node,
-    there: &mut Numbers,
-) -> Asked
+fn ask_at<R: Primitives>(by: &mut R, sight: &Sight<'_>, node: &Node, there: &mut Numbers) -> Asked
     ensures kept { length there.new ≡ length there.old }
-    ensures asks { AsksAt seat.now (view_of seat.now arrays.now body.now) node.now there.new result }
+    ensures asks { AsksAt sight.now.seat.now (view sight.now) node.now there.new result }
 {
     match node {
-        Node::End => end(body.gives),
-        Node::Set { local, value, next } => set(*local, *next, valued(seat, arrays, body, value)),
+        Node::End => end(sight.body.gives),
+        Node::Set { local, value, next } => set(*local, *next, sight.value(value)),
         Node::Store {
             array,
             length,
@@ -302,9 +330,15 @@ fn ask_at<R: Primitives>(
             value,
             next,
         } => {
-            let index = valued(seat, arrays, body, index);
-            let value = valued(seat, arrays, body, value);
-            store(seat.owns, *array, *length, *next, index, value)
+            let index = sight.value(index);
+            store(
+                sight.seat.owns,
+                *array,
+                *length,
+                *next,
+                index,
+                sight.value(value),
+            )
         }
         Node::Literal {
             row,
@@ -314,10 +348,10 @@ fn ask_at<R: Primitives>(
             result,
             next,
         } => {
-            let row = valued(seat, arrays, body, row);
-            let register = valued(seat, arrays, body, register);
+            let row = sight.value(row);
+            let register = sight.value(register);
             ask_literal(
-                seat,
+                sight.seat,
                 row,
                 register,
                 *numerator,
@@ -333,9 +367,7 @@ fn ask_at<R: Primitives>(
             next,
         } => ask_primitive(
             by,
-            seat,
-            arrays,
-            body,
+            sight,
             *primitive,
             arguments.as_slice(),
             *result,
@@ -348,9 +380,7 @@ fn ask_at<R: Primitives>(
             result,
             next,
         } => ask_call(
-            seat,
-            arrays,
-            body,
+            sight,
             *function,
             arguments.as_slice(),
             *result,
@@ -361,27 +391,15 @@ fn ask_at<R: Primitives>(
             test,
             yes: then_at,
             no: else_at,
-        } => branch(*then_at, *else_at, valued(seat, arrays, body, test)),
+        } => branch(*then_at, *else_at, sight.value(test)),
         Node::Switch {
             on,
             cases,
             otherwise,
-        } => switch(cases.as_slice(), *otherwise, valued(seat, arrays, body, on)),
-        Node::Return { value: Some(value) } => give_back(valued(seat, arrays, body, value)),
+        } => switch(cases.as_slice(), *otherwise, sight.value(on)),
+        Node::Return { value: Some(value) } => give_back(sight.value(value)),
         Node::Return { value: None } => give_back(Ok(0)),
     }
-}
-
-/// The value of a formula in a body.
-fn valued(
-    seat: &Seat<'_>,
-    arrays: &Arrays,
-    body: &Activation,
-    formula: &Formula,
-) -> Result<i64, Kind>
-    ensures { result ≡ spec.valued (view_of seat.now arrays.now body.now) formula.now }
-{
-    value_of(formula, body.values.as_slice(), seat.owns, arrays)
 }
 
 /// What a thread asks for that is ready. Where it is a call, the values of the arguments are worked out there.
@@ -405,5 +423,6 @@ pub(crate) fn ask<R: Primitives>(
     let Some(node) = code.nodes.get(body.place) else {
         return Asked::Returned;
     };
-    ask_at(by, seat, arrays, body, node, there)
+    let sight = Sight { seat, arrays, body };
+    ask_at(by, &sight, node, there)
 }

@@ -12,11 +12,10 @@ use hc_cast::CProgram;
 use hc_cexec::Machine;
 use hc_cmach::{ExecEnd, Moved};
 use hc_cprim::Primitives;
+use hc_trace::HEADER;
 use hc_world::{Failed, Sink, put_piece};
 use rand_pcg::Pcg32;
 use rand_pcg::rand_core::utils::NextWord;
-
-const HEADER: &[u8] = b"hcsp-trace 2\n";
 
 /// The thread that a word draws, of so many, and whether it is woken where it waits. Of no threads it draws one that
 /// isn't there.
