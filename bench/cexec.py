@@ -42,7 +42,7 @@ int main(void) {{ return hc_main({len(threads)}, hc_threads); }}
 
 
 def measured(program, source, steps):
-    """Seconds of processor, memory in millions of bytes, and how many steps moved."""
+    """Seconds of processor, and how many steps moved."""
     with tempfile.TemporaryFile() as given, tempfile.TemporaryFile() as told:
         given.write(source.encode())
         given.seek(0)
@@ -51,7 +51,7 @@ def measured(program, source, steps):
         told.seek(0)
         lines = told.read().decode().splitlines()
         assert os.waitstatus_to_exitcode(status) == USED_UP, (status, lines)
-        return used.ru_utime + used.ru_stime, used.ru_maxrss / 1000, int(lines[-1].split()[1])
+        return used.ru_utime + used.ru_stime, int(lines[-1].split()[1])
 
 
 def setting(name, otherwise):
@@ -62,7 +62,7 @@ def main():
     program, steps, rounds = setting("--hcsp", None), int(setting("--steps", 10_000_000)), int(setting("--rounds", 3))
     if program is None:
         sys.exit("usage: bench/cexec.py --hcsp PROGRAM [--steps K] [--rounds N]")
-    print(f"| loop | steps | moved | seconds | of these before the first step | steps a second | memory, MB |\n|{'---|' * 7}")
+    print(f"| loop | steps | moved | seconds | of these before the first step | steps a second |\n|{'---|' * 6}")
     slow = []
     for name, threads in SHAPES.items():
         source = text(threads)
@@ -70,7 +70,7 @@ def main():
         runs = [measured(program, source, steps) for _ in range(rounds)]
         seconds = min(run[0] for run in runs)
         speed = steps / max(seconds - before, 0.001)
-        print(f"| {name} | {steps:,} | {runs[0][2]:,} | {seconds:.2f} | {before:.3f} | {speed:,.0f} | {max(run[1] for run in runs):.0f} |", flush=True)
+        print(f"| {name} | {steps:,} | {runs[0][1]:,} | {seconds:.2f} | {before:.3f} | {speed:,.0f} |", flush=True)
         if speed < LEAST:
             slow.append(name)
     print(f"\nAt least {LEAST:,} steps a second are asked, {AIM:,} aimed at: " + (f"too slow are {', '.join(slow)}" if slow else "each loop has that"))
