@@ -1,14 +1,16 @@
 -- How pieces of code are put together.
-use Rattle.std.proofs.Common.{◌≡◌, refl, sym, ap, ◌∙◌, subst, ℕ, ◌+◌, ◌<◌, zero, suc, Bool, true, false, ◌&&◌, IsTrue, List, [], ◌∷◌, ◌++◌, length, drop, arith, append_assoc, length-append}
+use Rattle.std.proofs.Common.{◌≡◌, refl, sym, ap, ◌∙◌, subst, ℕ, ◌+◌, ◌≤◌, ◌<◌, zero, suc, Bool, true, false, ◌&&◌, IsTrue, List, [], ◌∷◌, ◌++◌, length, drop, arith, append_assoc, length-append, sum_by}
 use Rattle.std.specs.List.{list_all}
 use Rattle.std.proofs.lemmas.List.{append-nil}
 use Rattle.std.proofs.lemmas.List.Folds.{list_all-append}
+use Rattle.std.proofs.lemmas.List.Sums.{sum_by-append, sum_by-cons}
 use Rattle.hc_term.specs.declared.stmt.Stmt.{Stmt, out-Stmt}
 use Rattle.hc_term.specs.Process.{Layer}
 use Rattle.hc_term.specs.Rules.{is_stmt}
 use Rattle.hc_code.specs.declared.code.Instr.{Instr}
 use Rattle.hc_code.specs.Stands.{Table, At, AgreesHere, AllAgree, is_step}
 use Rattle.hc_code.specs.Kept.{is_instr}
+use Rattle.hc_code.specs.Measure.{measure_of, measure_all, weight}
 use Rattle.hc_code.specs.Pieces.{entry, HasAt, EachAt, Adds}
 
 -- ---- tests
@@ -69,6 +71,7 @@ nothing code next = record {
   even = λ rest. refl;
   stands = λ rest t has h. (tt, tt);
   ruled = λ channels n h. refl;
+  light = omega arith;
 }
 
 -- before the first of some statements
@@ -81,6 +84,7 @@ not_yet code next = record {
   even = λ rest. refl;
   stands = λ rest t has h. (tt, (h, tt));
   ruled = λ channels n h. refl;
+  light = omega arith;
 }
 
 -- where a piece begins that is put behind another
@@ -106,7 +110,11 @@ beside {a = a} {b = b} {c = c} {ps = ps} {qs = qs} {xs = xs} {ys = ys} p q = rec
       all_join (is_instr channels n) p.piece q.piece
       (p.ruled channels n (all_front (list_all (is_stmt channels n)) xs ys h))
       (q.ruled channels n (all_back (list_all (is_stmt channels n)) xs ys h));
+  light = omega (arith, p.light, q.light, sum_by-append weight p.piece q.piece, sum_by-append measure_all xs ys);
 }
+
+alone : (ss : List Stmt) → sum_by measure_all (ss ∷ []) ≡ measure_all ss
+alone ss = omega (arith, sum_by-cons measure_all ss [])
 
 one_part : (channels n : ℕ) (ss : List Stmt) → IsTrue (list_all (is_stmt channels n) ss) → IsTrue (list_all (list_all (is_stmt channels n)) (ss ∷ []))
 one_part channels n ss h = both (list_all (is_stmt channels n) ss) true h refl
@@ -135,6 +143,17 @@ one_then {a = a} {p = p} {xs = xs} {ys = ys} f g = record {
       all_join (is_instr channels n) f.piece g.piece
       (f.ruled channels n (one_part channels n xs (all_front (is_stmt channels n) xs ys whole)))
       (g.ruled channels n (one_part channels n ys (all_back (is_stmt channels n) xs ys whole)));
+  light =
+      omega (
+        arith,
+        f.light,
+        g.light,
+        alone xs,
+        alone ys,
+        alone (xs ++ ys),
+        sum_by-append measure_of xs ys,
+        sum_by-append weight f.piece g.piece,
+      );
 }
 
 -- an instruction before a piece: what must hold of the instruction of a statement whose parts are in the piece
@@ -145,6 +164,7 @@ pub record Heads (here next inner : ℕ) (inside : List Stmt → List Stmt) (beg
   pub agrees : (rest : List Stmt) (t : Table) → At t here (s ∷ rest) → At t next rest → EachAt t begins parts (inside rest) → AgreesHere t i s rest layer
   pub is_ruled : (channels n : ℕ) → IsTrue (is_stmt channels n s) → IsTrue (is_instr channels n i)
   pub are_ruled : (channels n : ℕ) → IsTrue (is_stmt channels n s) → IsTrue (list_all (list_all (is_stmt channels n)) parts)
+  pub weighs : weight i + sum_by measure_all parts ≤ measure_of s
 
 pub headed : {old mid new : List Instr} {next inner : ℕ} {inside : List Stmt → List Stmt} {begins : List ℕ} {parts : List (List Stmt)} {i : Instr} {s : Stmt} {layer : Layer} →
     mid ≡ old ++ i ∷ [] → Adds mid new inner begins parts → Heads (length old) next inner inside begins parts i s layer →
@@ -162,6 +182,7 @@ headed {old = old} {mid = mid} {inside = inside} {i = i} {s = s} e p h = record 
   ruled = λ channels n k.
       let own = first_of (is_stmt channels n s) true (of_one_part channels n (s ∷ []) k) in
       both (is_instr channels n i) (list_all (is_instr channels n) p.piece) (h.is_ruled channels n own) (p.ruled channels n (h.are_ruled channels n own));
+  light = omega (arith, p.light, h.weighs, sum_by-cons weight i p.piece, alone (s ∷ []), sum_by-cons measure_of s []);
 }
 
 -- ---- where statements begin

@@ -1,7 +1,8 @@
 -- The instruction of each form of a statement, before the pieces of its parts.
-use Rattle.std.proofs.Common.{rules, ◌≡◌, refl, sym, ap, ◌∙◌, ℕ, ◌+◌, Bool, true, ◌&&◌, IsTrue, List, [], ◌∷◌, length, nat_le}
+use Rattle.std.proofs.Common.{rules, ◌≡◌, ◌≤◌, refl, sym, ap, ◌∙◌, ℕ, suc, ◌+◌, Bool, true, ◌&&◌, IsTrue, List, [], ◌∷◌, length, nat_le, sum_by, arith}
 use Rattle.std.specs.List.{list_all}
 use Rattle.std.proofs.lemmas.List.Folds.{list_all-map}
+use Rattle.std.proofs.lemmas.List.Sums.{sum_by-cons}
 use Rattle.hc_term.specs.declared.expr.Expr.{Expr}
 use Rattle.hc_term.specs.declared.expr.Cond.{Cond}
 use Rattle.hc_term.specs.declared.stmt.Io.{Io}
@@ -12,11 +13,13 @@ use Rattle.hc_term.specs.declared.stmt.Stmt.TheVariants as stmt
 use Rattle.hc_term.specs.declared.stmt.Stmt.TheViews as seen
 use Rattle.hc_term.specs.declared.stmt.Branch.{Branch, out-Branch}
 use Rattle.hc_term.specs.Profile.{is_expr, is_cond, is_io, are_guards, is_evolution, ios_in}
-use Rattle.hc_term.specs.Rules.{is_stmt}
+use Rattle.hc_term.specs.Rules.{is_stmt, sent_nodes}
 use Rattle.hc_term.proofs.Ruled.{all_keep, branches_keep, is_stmt-If, is_stmt-Pick, is_stmt-Loop, is_stmt-Forever, is_stmt-Choice, is_stmt-Evolve}
 use Rattle.hc_code.specs.declared.code.Instr.TheVariants as instr
-use Rattle.hc_code.specs.Pieces.{entries, bodies, ways_at}
+use Rattle.hc_code.specs.Measure.{measure_of, measure_all, sent_in, weight}
+use Rattle.hc_code.specs.Pieces.{all_statements, entries, bodies, ways_at}
 use Rattle.hc_code.proofs.Growing.{Heads, both, first_of, second_of}
+use Rattle.hc_code.proofs.Measures.{skip_measure, assign_measure, wait_measure, log_measure, io_measure, if_measure, pick_measure, forever_measure, loop_measure, choice_measure, evolve_measure}
 use Rattle.hc_code.proofs.Ways.{ways_agree, ios_of-ways}
 
 abbrev pub same : List Stmt → List Stmt
@@ -45,6 +48,7 @@ skip_heads here next = record {
   agrees = λ rest t h k each. (next, refl, k);
   is_ruled = λ channels n h. refl;
   are_ruled = λ channels n h. refl;
+  weighs = omega (arith, skip_measure);
 }
 
 module _ (e : Expr) where
@@ -74,6 +78,7 @@ module _ (e : Expr) where
     agrees = λ rest t h k each. (next, refl, k);
     is_ruled = λ channels n h. sym (assign_rule channels n x) ∙ h;
     are_ruled = λ channels n h. refl;
+    weighs = omega (arith, assign_measure x e);
   }
 
   pub wait_heads : (here next : ℕ) → Heads here next next same [] [] (instr.Wait e next) (stmt.Wait e) (Stmt-F.Wait e)
@@ -84,6 +89,7 @@ module _ (e : Expr) where
     agrees = λ rest t h k each. (next, refl, k);
     is_ruled = λ channels n h. sym (wait_rule channels n) ∙ h;
     are_ruled = λ channels n h. refl;
+    weighs = omega (arith, wait_measure e);
   }
 
   pub log_heads : (here next : ℕ) → Heads here next next same [] [] (instr.Log e next) (stmt.Log e) (Stmt-F.Log e)
@@ -94,6 +100,7 @@ module _ (e : Expr) where
     agrees = λ rest t h k each. (next, refl, k);
     is_ruled = λ channels n h. sym (log_rule channels n) ∙ h;
     are_ruled = λ channels n h. refl;
+    weighs = omega (arith, log_measure e);
   }
 
 io_out : (io : Io) → out-Stmt (stmt.Io io) ≡ Stmt-F.Io io
@@ -105,6 +112,9 @@ io_rule channels n io = search (rules, the_lemmas)
 one_guard : (channels n : ℕ) (io : Io) → IsTrue (is_io channels n io) → IsTrue (are_guards channels n (io ∷ []))
 one_guard channels n io h = both (is_io channels n io && true) true (both (is_io channels n io) true h refl) refl
 
+one_sent : (io : Io) → sent_in (io ∷ []) ≡ sent_nodes io
+one_sent io = omega (arith, sum_by-cons sent_nodes io [])
+
 pub io_heads : (here next : ℕ) (io : Io) →
     Heads here next next same [] [] (instr.Meet (record { io = io; next = next } ∷ [])) (stmt.Io io) (Stmt-F.Io io)
 io_heads here next io = record {
@@ -114,6 +124,7 @@ io_heads here next io = record {
   agrees = λ rest t h k each. (next, refl, k);
   is_ruled = λ channels n h. one_guard channels n io (sym (io_rule channels n io) ∙ h);
   are_ruled = λ channels n h. refl;
+  weighs = omega (arith, io_measure io, one_sent io);
 }
 
 -- ---- statements with parts
@@ -140,6 +151,7 @@ if_heads here next first second c ss rs = record {
       let own = sym (is_stmt-If channels n _ c ss rs refl) ∙ h in
       two_parts channels n ss rs (second_three (is_cond n c) (all_keep channels n ss) (all_keep channels n rs) own)
       (third_three (is_cond n c) (all_keep channels n ss) (all_keep channels n rs) own);
+  weighs = if_measure c ss rs;
 }
 
 pick_out : (ss rs : List Stmt) → out-Stmt (seen.Pick ss rs) ≡ Stmt-F.Pick ss rs
@@ -156,6 +168,7 @@ pick_heads here next first second ss rs = record {
   are_ruled = λ channels n h.
       let own = sym (is_stmt-Pick channels n _ ss rs refl) ∙ h in
       two_parts channels n ss rs (first_of (all_keep channels n ss) (all_keep channels n rs) own) (second_of (all_keep channels n ss) (all_keep channels n rs) own);
+  weighs = pick_measure ss rs;
 }
 
 forever_out : (ss : List Stmt) → out-Stmt (seen.Forever ss) ≡ Stmt-F.Forever ss
@@ -171,6 +184,7 @@ forever_heads here next first ss = record {
   agrees = λ rest t h k each. (first, refl, each.0);
   is_ruled = λ channels n h. refl;
   are_ruled = λ channels n h. one_part channels n ss (sym (is_stmt-Forever channels n _ ss refl) ∙ h);
+  weighs = forever_measure ss;
 }
 
 loop_out : (c : Cond) (ss : List Stmt) → out-Stmt (seen.Loop c ss) ≡ Stmt-F.Loop c ss
@@ -185,10 +199,23 @@ loop_heads here next first c ss = record {
   agrees = λ rest t h k each. (first, next, refl, each.0, k);
   is_ruled = λ channels n h. first_of (is_cond n c) (all_keep channels n ss) (sym (is_stmt-Loop channels n _ c ss refl) ∙ h);
   are_ruled = λ channels n h. one_part channels n ss (second_of (is_cond n c) (all_keep channels n ss) (sym (is_stmt-Loop channels n _ c ss refl) ∙ h));
+  weighs = loop_measure c ss;
 }
 
 branch_parts : (channels n : ℕ) (bs : List Branch) → IsTrue (branches_keep channels n bs) → IsTrue (list_all (list_all (is_stmt channels n)) (bodies bs))
 branch_parts channels n bs h = list_all-map (list_all (is_stmt channels n)) (λ (b : Branch). (out-Branch b).body) bs ∙ h
+
+many_ways : (from next : ℕ) (bs : List Branch) → length (ways_at from next bs) ≡ length bs
+many_ways from next [] = refl
+many_ways from next (b ∷ bs) = ap suc (many_ways (from + all_statements (out-Branch b).body) next bs)
+
+module _ (next from : ℕ) where
+  choice_weighs : (bs : List Branch) → weight (instr.Meet (ways_at from next bs)) + sum_by measure_all (bodies bs) ≤ measure_of (seen.Choice bs)
+  choice_weighs bs = omega (arith, choice_measure bs, many_ways from next bs, ap sent_in (ios_of-ways from next bs))
+
+  evolve_weighs : (rates : List Rate) (c : Cond) (bs : List Branch) →
+      weight (instr.Evolve rates c (ways_at from next bs) next) + sum_by measure_all (bodies bs) ≤ measure_of (seen.Evolve rates c bs)
+  evolve_weighs rates c bs = omega (arith, evolve_measure rates c bs, many_ways from next bs, ap sent_in (ios_of-ways from next bs))
 
 choice_out : (bs : List Branch) → out-Stmt (seen.Choice bs) ≡ Stmt-F.Choice bs
 choice_out bs = search (rules, the_lemmas)
@@ -207,6 +234,7 @@ choice_heads here next from bs = record {
   are_ruled = λ channels n h.
       branch_parts channels n bs
       (third_three (nat_le 1 (length bs)) (are_guards channels n (ios_in bs)) (branches_keep channels n bs) (sym (is_stmt-Choice channels n _ bs refl) ∙ h));
+  weighs = choice_weighs next from bs;
 }
 
 evolve_out : (rates : List Rate) (c : Cond) (bs : List Branch) → out-Stmt (seen.Evolve rates c bs) ≡ Stmt-F.Evolve rates c bs
@@ -227,4 +255,5 @@ evolve_heads here next from rates c bs = record {
       branch_parts channels n bs
       (second_of (is_evolution n rates c (ios_in bs) && are_guards channels n (ios_in bs)) (branches_keep channels n bs)
       (sym (is_stmt-Evolve channels n _ rates c bs refl) ∙ h));
+  weighs = evolve_weighs next from rates c bs;
 }

@@ -1,3 +1,4 @@
+pub mod Measures
 pub mod Sums
 pub mod Growing
 pub mod Ways

@@ -1,8 +1,9 @@
 -- A whole code: what a piece from place 0 on stands for, with an `End` behind it.
-use Rattle.std.proofs.Common.{◌≡◌, refl, sym, ap, ◌∙◌, subst, ℕ, ◌+◌, IsTrue, List, [], ◌∷◌, ◌++◌, length, arith, append_assoc, length-append}
+use Rattle.std.proofs.Common.{◌≡◌, refl, sym, ap, ◌∙◌, subst, ℕ, ◌+◌, IsTrue, List, [], ◌∷◌, ◌++◌, length, arith, append_assoc, length-append, sum_by}
 use Rattle.std.specs.Prelude.{slice_get, Some}
 use Rattle.std.specs.List.{list_all}
 use Rattle.std.proofs.lemmas.List.{append-nil}
+use Rattle.std.proofs.lemmas.List.Sums.{sum_by-append, sum_by-cons}
 use Rattle.hc_term.specs.declared.stmt.Stmt.{Stmt}
 use Rattle.hc_term.specs.declared.system.Process.{Process}
 use Rattle.hc_term.specs.Rules.{is_stmt}
@@ -10,6 +11,7 @@ use Rattle.hc_code.specs.declared.code.Instr.{Instr}
 use Rattle.hc_code.specs.declared.code.Instr.TheVariants.{End}
 use Rattle.hc_code.specs.Stands.{Table, At, Stands, HasOneEach, AllAgree, is_step}
 use Rattle.hc_code.specs.Kept.{is_instr, KeepsRules}
+use Rattle.hc_code.specs.Measure.{measure_all, weight, IsMeasured}
 use Rattle.hc_code.specs.Pieces.{all_statements, entry, HasAt, Adds}
 use Rattle.hc_code.proofs.Growing.{agree_join, both, all_join}
 
@@ -65,6 +67,19 @@ module _ (code whole : List Instr) (body : List Stmt) (next : ℕ) (p : Adds [] 
       subst (λ is. IsTrue (list_all (is_instr channels n) is)) (sym p.is) (p.ruled channels n (both (list_all (is_stmt channels n) body) _ h refl)) in
       subst (λ is. IsTrue (list_all (is_instr channels n) is)) (sym e) (all_join (is_instr channels n) code (End ∷ []) front refl)
 
+  pub is_measured : (q : Process) → q.body ≡ body → IsMeasured q whole
+  is_measured q same =
+      omega (
+        arith,
+        p.light,
+        ap (sum_by weight) p.is,
+        ap (sum_by weight) e,
+        sum_by-append weight code (End ∷ []),
+        sum_by-cons weight End [],
+        sum_by-cons measure_all body [],
+        ap measure_all same,
+      )
+
 -- the same of a code that was begun with nothing
 module _ (start code whole : List Instr) (body own : List Stmt) (next : ℕ) (empty : start ≡ []) (own_is : body ≡ own)
     (p : Adds start code next (entry (length start) next body ∷ []) (body ∷ [])) (grown : length code ≡ length start + all_statements body)
@@ -83,3 +98,6 @@ module _ (start code whole : List Instr) (body own : List Stmt) (next : ℕ) (em
 
   pub each : (q : Process) → q.body ≡ own → HasOneEach q whole
   each q same = one_each code whole body next from_nothing counted total e q (same ∙ sym own_is)
+
+  pub measured : (q : Process) → q.body ≡ own → IsMeasured q whole
+  measured q same = is_measured code whole body next from_nothing counted total e q (same ∙ sym own_is)

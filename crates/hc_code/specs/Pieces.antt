@@ -1,5 +1,5 @@
 -- What a piece of code stands for that is put behind others: the words in which the compiler's parts say what they did.
-use Rattle.std.specs.Prelude.{◌≡◌, ℕ, ◌+◌, Bool, true, false, List, [], ◌∷◌, ◌++◌, length, map, sum_by, IsTrue}
+use Rattle.std.specs.Prelude.{◌≡◌, ◌≤◌, ℕ, ◌+◌, Bool, true, false, List, [], ◌∷◌, ◌++◌, length, map, sum_by, IsTrue}
 use Rattle.std.specs.List.{list_all}
 use Rattle.hc_term.specs.declared.stmt.Stmt.{Stmt}
 use Rattle.hc_term.specs.declared.stmt.Stmt.TheOpen.{Stmt-F}
@@ -10,6 +10,7 @@ use Rattle.hc_code.specs.declared.code.Way.{Way}
 use Rattle.hc_code.specs.declared.code.Instr.{Instr}
 use Rattle.hc_code.specs.Stands.{Table, At, AllAgree, is_step}
 use Rattle.hc_code.specs.Kept.{is_instr}
+use Rattle.hc_code.specs.Measure.{measure_all, weight}
 
 abbrev pub all_statements : List Stmt → ℕ
 all_statements ss = sum_by statements ss
@@ -59,7 +60,7 @@ EachAt t _ _ rest = ⊥
 
 -- The code has grown by a piece. Where the place `next` stands for a rest, and the piece's places for the lists that
 -- go with that rest, the piece agrees with them, and each of its beginnings stands for its statements and the rest.
--- Where the statements keep the rules, so does the piece.
+-- Where the statements keep the rules, so does the piece; and it counts no more than they do.
 pub record Adds (old new : List Instr) (next : ℕ) (begins : List ℕ) (parts : List (List Stmt)) : Type 0 where
   pub piece : List Instr
   pub is : new ≡ old ++ piece
@@ -69,3 +70,4 @@ pub record Adds (old new : List Instr) (next : ℕ) (begins : List ℕ) (parts :
   pub stands : (rest : List Stmt) (t : Table) → HasAt t (length old) (lists rest) → At t next rest →
       AllAgree t piece (lists rest) × EachAt t begins parts rest
   pub ruled : (channels n : ℕ) → IsTrue (list_all (list_all (is_stmt channels n)) parts) → IsTrue (list_all (is_instr channels n) piece)
+  pub light : sum_by weight piece ≤ sum_by measure_all parts

@@ -6,6 +6,7 @@ ghost use Rattle.hc_term.specs.declared.stmt.Stmt.{out-Stmt};
 ghost use Rattle.hc_term.specs.Rules.{statements, body_statements};
 ghost use Rattle.hc_code.specs.Stands.{Stands, HasOneEach};
 ghost use Rattle.hc_code.specs.Kept.{KeepsRules};
+ghost use Rattle.hc_code.specs.Measure.{IsMeasured};
 ghost use Rattle.hc_code.specs.Pieces.{all_statements, branch_statements, entry, entries, bodies, ways_at, is_leaf, Adds};
 
 use crate::count::{count_all, count_one};
@@ -361,6 +362,7 @@ pub fn compile(alloc: Global, process: &Process) -> Result<ProcCode, AllocError>
     ensures stands { IfOk result (λ code. Stands code.instrs process.now.body) }
     ensures one_each { IfOk result (λ code. HasOneEach process.now code.instrs) }
     ensures kept { IfOk result (λ code. KeepsRules process.now.body code.instrs) }
+    ensures measured { IfOk result (λ code. IsMeasured process.now code.instrs) }
 {
     let body = process.body.as_slice();
     let end = count_all(body);
