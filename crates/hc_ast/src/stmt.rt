@@ -1,6 +1,7 @@
 //! Statements.
 
-ghost use Rattle.std.specs.Prelude.{◌≡◌, IfOk};
+ghost use Rattle.std.specs.Prelude.{◌≡◌, Some, None, IfOk};
+ghost use Rattle.hc_ast.specs.declared.stmt.StmtKind.TheVariants as a;
 
 use crate::lists::{Copied, copies};
 use crate::{CondTree, ExprTree};
@@ -171,43 +172,24 @@ impl StmtKind {
                 test,
                 yes,
                 no: None,
-            } => {
-                let test = test.copy(alloc)?;
-                let yes = copy_statements(alloc, yes.as_slice())?;
-                Ok(StmtKind::If {
-                    test,
-                    yes,
-                    no: None,
-                })
-            }
+            } => copy_if(alloc, yes.as_slice(), test),
             StmtKind::If {
                 test,
                 yes,
                 no: Some(no),
             } => {
-                let test = test.copy(alloc)?;
                 let yes = copy_statements(alloc, yes.as_slice())?;
-                let no = copy_statements(alloc, no.as_slice())?;
-                Ok(StmtKind::If {
-                    test,
-                    yes,
-                    no: Some(no),
-                })
+                copy_if_else(alloc, no.as_slice(), test, yes)
             }
             StmtKind::Pick { left, right } => {
                 let left = copy_statements(alloc, left.as_slice())?;
-                let right = copy_statements(alloc, right.as_slice())?;
-                Ok(StmtKind::Pick { left, right })
+                copy_pick(alloc, right.as_slice(), left)
             }
             StmtKind::Forever { body } => {
                 let body = copy_statements(alloc, body.as_slice())?;
                 Ok(StmtKind::Forever { body })
             }
-            StmtKind::Loop { test, body } => {
-                let test = test.copy(alloc)?;
-                let body = copy_statements(alloc, body.as_slice())?;
-                Ok(StmtKind::Loop { test, body })
-            }
+            StmtKind::Loop { test, body } => copy_loop(alloc, body.as_slice(), test),
             StmtKind::Choice { branches } => {
                 let branches = copy_branches(alloc, branches.as_slice())?;
                 Ok(StmtKind::Choice { branches })
@@ -216,18 +198,83 @@ impl StmtKind {
                 rates,
                 domain,
                 branches,
-            } => {
-                let rates = copies(alloc, rates.as_slice())?;
-                let domain = domain.copy(alloc)?;
-                let branches = copy_branches(alloc, branches.as_slice())?;
-                Ok(StmtKind::Evolve {
-                    rates,
-                    domain,
-                    branches,
-                })
-            }
+            } => copy_evolve(alloc, branches.as_slice(), rates.as_slice(), domain),
         }
     }
+}
+
+// The forms with several parts have functions of their own, whose first part is the one that they go down; a part that
+// was copied before is handed on.
+
+#[cycle(stmt_copies)]
+fn copy_if(alloc: Global, yes: &[StmtTree], test: &CondTree) -> Result<StmtKind, AllocError>
+    ensures { IfOk result (λ t. t ≡ a.If test.now yes.now None) }
+{
+    let test = test.copy(alloc)?;
+    let yes = copy_statements(alloc, yes)?;
+    Ok(StmtKind::If {
+        test,
+        yes,
+        no: None,
+    })
+}
+
+#[cycle(stmt_copies)]
+fn copy_if_else(
+    alloc: Global,
+    no: &[StmtTree],
+    test: &CondTree,
+    yes: List<StmtTree>,
+) -> Result<StmtKind, AllocError>
+    ensures { IfOk result (λ t. t ≡ a.If test.now yes (Some no.now)) }
+{
+    let test = test.copy(alloc)?;
+    let no = copy_statements(alloc, no)?;
+    Ok(StmtKind::If {
+        test,
+        yes,
+        no: Some(no),
+    })
+}
+
+#[cycle(stmt_copies)]
+fn copy_pick(
+    alloc: Global,
+    right: &[StmtTree],
+    left: List<StmtTree>,
+) -> Result<StmtKind, AllocError>
+    ensures { IfOk result (λ t. t ≡ a.Pick left right.now) }
+{
+    let right = copy_statements(alloc, right)?;
+    Ok(StmtKind::Pick { left, right })
+}
+
+#[cycle(stmt_copies)]
+fn copy_loop(alloc: Global, body: &[StmtTree], test: &CondTree) -> Result<StmtKind, AllocError>
+    ensures { IfOk result (λ t. t ≡ a.Loop test.now body.now) }
+{
+    let test = test.copy(alloc)?;
+    let body = copy_statements(alloc, body)?;
+    Ok(StmtKind::Loop { test, body })
+}
+
+#[cycle(stmt_copies)]
+fn copy_evolve(
+    alloc: Global,
+    branches: &[BranchTree],
+    rates: &[RateTree],
+    domain: &CondTree,
+) -> Result<StmtKind, AllocError>
+    ensures { IfOk result (λ t. t ≡ a.Evolve rates.now domain.now branches.now) }
+{
+    let rates = copies(alloc, rates)?;
+    let domain = domain.copy(alloc)?;
+    let branches = copy_branches(alloc, branches)?;
+    Ok(StmtKind::Evolve {
+        rates,
+        domain,
+        branches,
+    })
 }
 
 impl BranchTree {

@@ -1,6 +1,7 @@
 //! Names by their numbers, and numbers as fractions.
 
-ghost use Rattle.std.specs.Prelude.{◌≡◌, ◌<◌, ◌^◌, length, map, IfOk};
+ghost use Rattle.std.specs.Prelude.{◌≡◌, ◌<◌, ◌^◌, [], length, map, IfOk};
+ghost use Rattle.hc_term.specs.declared.stmt.Stmt.TheVariants as a;
 ghost use Rattle.hc_finds.specs.Names.{number_in};
 ghost use Rattle.hc_check.specs.Numbered as spec;
 ghost use Rattle.hc_check.specs.Numberings.{IsSmall};
@@ -50,6 +51,7 @@ fn comparison_of(how: hc_ast::Comparison) -> Comparison
 }
 
 /// An expression over these variables.
+#[cycle(exprs)]
 fn number_expr(
     alloc: Global,
     variables: &IndexSet<Name>,
@@ -62,22 +64,32 @@ fn number_expr(
         ExprKind::Number(number) => Ok(Expr::Number(number.value())),
         ExprKind::Name(name) => Ok(Expr::Variable(number(variables, name))),
         ExprKind::Neg(part) => {
-            let part = number_expr(alloc, variables, part.get())?;
-            Ok(Expr::Neg(Boxed::new(alloc, part)?))
+            let part = boxed_expr(alloc, variables, part)?;
+            Ok(Expr::Neg(part))
         }
         ExprKind::Binary(op, left, right) => {
-            let left = number_expr(alloc, variables, left.get())?;
-            let right = number_expr(alloc, variables, right.get())?;
-            Ok(Expr::Binary(
-                op_of(*op),
-                Boxed::new(alloc, left)?,
-                Boxed::new(alloc, right)?,
-            ))
+            let left = boxed_expr(alloc, variables, left)?;
+            let right = boxed_expr(alloc, variables, right)?;
+            Ok(Expr::Binary(op_of(*op), left, right))
         }
     }
 }
 
+#[cycle(exprs)]
+fn boxed_expr(
+    alloc: Global,
+    variables: &IndexSet<Name>,
+    part: &Boxed<ExprTree>,
+) -> Result<Boxed<Expr>, AllocError>
+    requires { length variables.now.keys < 2 ^ 32 }
+    ensures { IfOk result (λ e. e ≡ spec.expr_over variables.now.keys part.now) }
+{
+    let part = number_expr(alloc, variables, part.get())?;
+    Boxed::new(alloc, part)
+}
+
 /// A condition over these variables.
+#[cycle(conds)]
 fn number_cond(
     alloc: Global,
     variables: &IndexSet<Name>,
@@ -90,29 +102,38 @@ fn number_cond(
         CondKind::True => Ok(Cond::True),
         CondKind::False => Ok(Cond::False),
         CondKind::Compare(how, left, right) => {
-            let left = number_expr(alloc, variables, left.get())?;
-            let right = number_expr(alloc, variables, right.get())?;
-            Ok(Cond::Compare(
-                comparison_of(*how),
-                Boxed::new(alloc, left)?,
-                Boxed::new(alloc, right)?,
-            ))
+            let left = boxed_expr(alloc, variables, left)?;
+            let right = boxed_expr(alloc, variables, right)?;
+            Ok(Cond::Compare(comparison_of(*how), left, right))
         }
         CondKind::Not(part) => {
-            let part = number_cond(alloc, variables, part.get())?;
-            Ok(Cond::Not(Boxed::new(alloc, part)?))
+            let part = boxed_cond(alloc, variables, part)?;
+            Ok(Cond::Not(part))
         }
         CondKind::And(left, right) => {
-            let left = number_cond(alloc, variables, left.get())?;
-            let right = number_cond(alloc, variables, right.get())?;
-            Ok(Cond::And(Boxed::new(alloc, left)?, Boxed::new(alloc, right)?))
+            let left = boxed_cond(alloc, variables, left)?;
+            let right = boxed_cond(alloc, variables, right)?;
+            Ok(Cond::And(left, right))
         }
         CondKind::Or(left, right) => {
-            let left = number_cond(alloc, variables, left.get())?;
-            let right = number_cond(alloc, variables, right.get())?;
-            Ok(Cond::Or(Boxed::new(alloc, left)?, Boxed::new(alloc, right)?))
+            let left = boxed_cond(alloc, variables, left)?;
+            let right = boxed_cond(alloc, variables, right)?;
+            Ok(Cond::Or(left, right))
         }
     }
+}
+
+#[cycle(conds)]
+fn boxed_cond(
+    alloc: Global,
+    variables: &IndexSet<Name>,
+    part: &Boxed<CondTree>,
+) -> Result<Boxed<Cond>, AllocError>
+    requires { length variables.now.keys < 2 ^ 32 }
+    ensures { IfOk result (λ c. c ≡ spec.cond_over variables.now.keys part.now) }
+{
+    let part = number_cond(alloc, variables, part.get())?;
+    Boxed::new(alloc, part)
 }
 
 /// The names by which statements are numbered.
@@ -187,29 +208,28 @@ fn number_stmt(alloc: Global, names: Numbering<'_>, stmt: &StmtTree) -> Result<S
             let value = number_expr(alloc, names.variables, value)?;
             Ok(Stmt::Log { value })
         }
-        StmtKind::If { test, yes, no } => {
-            let test = number_cond(alloc, names.variables, test)?;
+        StmtKind::If {
+            test,
+            yes,
+            no: None,
+        } => number_if(alloc, names, yes.as_slice(), test),
+        StmtKind::If {
+            test,
+            yes,
+            no: Some(no),
+        } => {
             let yes = number_stmts(alloc, names, yes.as_slice())?;
-            let no = match no {
-                Some(no) => number_stmts(alloc, names, no.as_slice())?,
-                None => List::new(alloc),
-            };
-            Ok(Stmt::If { test, yes, no })
+            number_if_else(alloc, names, no.as_slice(), test, yes)
         }
         StmtKind::Pick { left, right } => {
             let left = number_stmts(alloc, names, left.as_slice())?;
-            let right = number_stmts(alloc, names, right.as_slice())?;
-            Ok(Stmt::Pick { left, right })
+            number_pick(alloc, names, right.as_slice(), left)
         }
         StmtKind::Forever { body } => {
             let body = number_stmts(alloc, names, body.as_slice())?;
             Ok(Stmt::Forever { body })
         }
-        StmtKind::Loop { test, body } => {
-            let test = number_cond(alloc, names.variables, test)?;
-            let body = number_stmts(alloc, names, body.as_slice())?;
-            Ok(Stmt::Loop { test, body })
-        }
+        StmtKind::Loop { test, body } => number_loop(alloc, names, body.as_slice(), test),
         StmtKind::Choice { branches } => {
             let branches = number_branches(alloc, names, branches.as_slice())?;
             Ok(Stmt::Choice { branches })
@@ -218,17 +238,99 @@ fn number_stmt(alloc: Global, names: Numbering<'_>, stmt: &StmtTree) -> Result<S
             rates,
             domain,
             branches,
-        } => {
-            let rates = number_rates(alloc, names.variables, rates.as_slice())?;
-            let domain = number_cond(alloc, names.variables, domain)?;
-            let branches = number_branches(alloc, names, branches.as_slice())?;
-            Ok(Stmt::Evolve {
-                rates,
-                domain,
-                branches,
-            })
-        }
+        } => number_evolve(alloc, names, branches.as_slice(), rates.as_slice(), domain),
     }
+}
+
+// The forms with several parts have functions of their own, whose first part is the one that they go down; a part that
+// was numbered before is handed on.
+
+#[cycle(numbered)]
+fn number_if(
+    alloc: Global,
+    names: Numbering<'_>,
+    yes: &[StmtTree],
+    test: &CondTree,
+) -> Result<Stmt, AllocError>
+    requires { IsSmall names }
+    ensures { IfOk result (λ s. s ≡ a.If (spec.cond_over names.entry.variables.now.keys test.now) (map (spec.stmt_over names.entry.channels.now.keys names.entry.variables.now.keys) yes.now) []) }
+{
+    let test = number_cond(alloc, names.variables, test)?;
+    let yes = number_stmts(alloc, names, yes)?;
+    Ok(Stmt::If {
+        test,
+        yes,
+        no: List::new(alloc),
+    })
+}
+
+#[cycle(numbered)]
+fn number_if_else(
+    alloc: Global,
+    names: Numbering<'_>,
+    no: &[StmtTree],
+    test: &CondTree,
+    yes: List<Stmt>,
+) -> Result<Stmt, AllocError>
+    requires { IsSmall names }
+    ensures { IfOk result (λ s. s ≡ a.If (spec.cond_over names.entry.variables.now.keys test.now) yes (map (spec.stmt_over names.entry.channels.now.keys names.entry.variables.now.keys) no.now)) }
+{
+    let test = number_cond(alloc, names.variables, test)?;
+    let no = number_stmts(alloc, names, no)?;
+    Ok(Stmt::If { test, yes, no })
+}
+
+#[cycle(numbered)]
+fn number_pick(
+    alloc: Global,
+    names: Numbering<'_>,
+    right: &[StmtTree],
+    left: List<Stmt>,
+) -> Result<Stmt, AllocError>
+    requires { IsSmall names }
+    ensures { IfOk result (λ s. s ≡ a.Pick left (map (spec.stmt_over names.entry.channels.now.keys names.entry.variables.now.keys) right.now)) }
+{
+    let right = number_stmts(alloc, names, right)?;
+    Ok(Stmt::Pick { left, right })
+}
+
+#[cycle(numbered)]
+fn number_loop(
+    alloc: Global,
+    names: Numbering<'_>,
+    body: &[StmtTree],
+    test: &CondTree,
+) -> Result<Stmt, AllocError>
+    requires { IsSmall names }
+    ensures { IfOk result (λ s. s ≡ a.Loop (spec.cond_over names.entry.variables.now.keys test.now) (map (spec.stmt_over names.entry.channels.now.keys names.entry.variables.now.keys) body.now)) }
+{
+    let test = number_cond(alloc, names.variables, test)?;
+    let body = number_stmts(alloc, names, body)?;
+    Ok(Stmt::Loop { test, body })
+}
+
+#[cycle(numbered)]
+fn number_evolve(
+    alloc: Global,
+    names: Numbering<'_>,
+    branches: &[BranchTree],
+    rates: &[RateTree],
+    domain: &CondTree,
+) -> Result<Stmt, AllocError>
+    requires { IsSmall names }
+    ensures { IfOk result (λ s. s ≡ a.Evolve
+        (map (spec.rate_over names.entry.variables.now.keys) rates.now)
+        (spec.cond_over names.entry.variables.now.keys domain.now)
+        (map (spec.branch_over names.entry.channels.now.keys names.entry.variables.now.keys) branches.now)) }
+{
+    let rates = number_rates(alloc, names.variables, rates)?;
+    let domain = number_cond(alloc, names.variables, domain)?;
+    let branches = number_branches(alloc, names, branches)?;
+    Ok(Stmt::Evolve {
+        rates,
+        domain,
+        branches,
+    })
 }
 
 /// Statements over these channels and variables, in their order.

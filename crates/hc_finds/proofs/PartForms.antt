@@ -12,7 +12,7 @@ use Rattle.hc_frac.specs.declared.place.Place.{Place}
 use Rattle.hc_ast.specs.declared.stmt.StmtKind.TheOpen.{StmtKind-F}
 use Rattle.hc_ast.specs.declared.stmt.StmtKind.TheFolds.{fold-StmtKind, fold-roll-StmtKind, fold-roll-StmtTree}
 use Rattle.hc_finds.specs.Seen.{io_in}
-use Rattle.hc_finds.specs.Parts.{guard, kind_layer, guard_layer, joined, Part, test, domain, Guard, parts, parts_of, guard_of, guards_from, rates_from}
+use Rattle.hc_finds.specs.Parts.{guard, kind_layer, guard_layer, joined, loop_parts, Part, test, domain, Guard, parts, parts_of, guard_of, guards_from, rates_from}
 
 module _ (tf : Bool) (s : StmtTree) where
   pub parts-if : (c : CondTree) (ss : List StmtTree) → s.kind ≡ seen.If c ss None → parts tf s ≡ test s.place c ∷ (parts_of tf ss ++ [])
@@ -37,6 +37,10 @@ module _ (tf : Bool) (s : StmtTree) where
 
   pub parts-choice : (bs : List BranchTree) → s.kind ≡ seen.Choice bs → parts tf s ≡ guards_from [] [] (map (guard_of tf) bs)
   parts-choice bs e = search (rules, the_lemmas)
+
+  pub parts-round : (c : CondTree) (ss : List StmtTree) → s.kind ≡ seen.Loop c ss
+      → parts tf s ≡ loop_parts tf (test s.place c) (parts_of tf ss)
+  parts-round c ss e = search (rules, the_lemmas, flat_map-map)
 
   pub parts-evolve : (rs : List RateTree) (c : CondTree) (bs : List BranchTree) → s.kind ≡ seen.Evolve rs c bs
       → parts tf s ≡ rates_from rs [] rs ++ domain rs s.place c ∷ guards_from rs [] (map (guard_of tf) bs)

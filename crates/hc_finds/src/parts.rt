@@ -66,6 +66,24 @@ fn add_rates<'a>(parts: &mut Vec<Part<'a>>, rates: &'a [RateTree]) -> Result<(),
     Ok(())
 }
 
+/// The rates and the domain of an evolution.
+fn add_motion<'a>(
+    parts: &mut Vec<Part<'a>>,
+    rates: &'a [RateTree],
+    place: Place,
+    domain: &'a CondTree,
+) -> Result<(), AllocError>
+    ensures { OnOk result (seen parts.new.items ≡
+        seen parts.old.items ++ spec.rates_from rates.now [] rates.now ++ spec.domain rates.now place domain.now ∷ []) }
+{
+    add_rates(parts, rates)?;
+    Ok(parts.push(Part::Domain {
+        rates,
+        place,
+        domain,
+    })?)
+}
+
 /// The parts of a statement.
 #[cycle(parts)]
 fn add_parts<'a>(
@@ -99,15 +117,7 @@ fn add_parts<'a>(
             add_all(parts, tests_first, right.as_slice())
         }
         StmtKind::Forever { body } => add_all(parts, tests_first, body.as_slice()),
-        StmtKind::Loop { test, body } => {
-            if tests_first {
-                parts.push(Part::Test { place, test })?;
-                add_all(parts, true, body.as_slice())
-            } else {
-                add_all(parts, false, body.as_slice())?;
-                Ok(parts.push(Part::Test { place, test })?)
-            }
-        }
+        StmtKind::Loop { test, body } => add_loop(parts, tests_first, body.as_slice(), place, test),
         StmtKind::Choice { branches } => add_guards(parts, tests_first, &[], branches.as_slice()),
         StmtKind::Evolve {
             rates,
@@ -115,14 +125,30 @@ fn add_parts<'a>(
             branches,
         } => {
             let rates = rates.as_slice();
-            add_rates(parts, rates)?;
-            parts.push(Part::Domain {
-                rates,
-                place,
-                domain,
-            })?;
+            add_motion(parts, rates, place, domain)?;
             add_guards(parts, tests_first, rates, branches.as_slice())
         }
+    }
+}
+
+/// The parts of a loop, whose test comes first, or last as the tokens stand.
+#[cycle(parts)]
+fn add_loop<'a>(
+    parts: &mut Vec<Part<'a>>,
+    tests_first: bool,
+    body: &'a [StmtTree],
+    place: Place,
+    test: &'a CondTree,
+) -> Result<(), AllocError>
+    ensures { OnOk result (seen parts.new.items ≡
+        seen parts.old.items ++ spec.loop_parts tests_first (spec.test place test.now) (spec.parts_of tests_first body.now)) }
+{
+    if tests_first {
+        parts.push(Part::Test { place, test })?;
+        add_all(parts, true, body)
+    } else {
+        add_all(parts, false, body)?;
+        Ok(parts.push(Part::Test { place, test })?)
     }
 }
 

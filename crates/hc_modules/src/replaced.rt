@@ -1,6 +1,7 @@
 //! A module's statements in a call: arguments stand where parameters stood.
 
-ghost use Rattle.std.specs.Prelude.{◌≡◌, map, IfOk};
+ghost use Rattle.std.specs.Prelude.{◌≡◌, map, Some, None, IfOk};
+ghost use Rattle.hc_ast.specs.declared.stmt.StmtKind.TheVariants as a;
 ghost use Rattle.hc_modules.specs.Calls.{bindings};
 ghost use Rattle.hc_modules.specs.Replaced as spec;
 
@@ -12,6 +13,7 @@ use hc_list::{Boxed, List};
 use std::alloc::{AllocError, Global};
 
 /// An expression in a call.
+#[cycle(exprs)]
 fn expr_in(alloc: Global, call: &Call, expr: &ExprTree) -> Result<ExprTree, AllocError>
     ensures { IfOk result (λ t. t ≡ spec.expr_in (bindings call.now) expr.now) }
 {
@@ -29,17 +31,29 @@ fn expr_in(alloc: Global, call: &Call, expr: &ExprTree) -> Result<ExprTree, Allo
             }
         },
         ExprKind::Neg(part) => {
-            let part = expr_in(alloc, call, part.get())?;
-            let kind = ExprKind::Neg(Boxed::new(alloc, part)?);
+            let part = boxed_expr_in(alloc, call, part)?;
+            let kind = ExprKind::Neg(part);
             Ok(ExprTree { place, kind })
         }
         ExprKind::Binary(op, left, right) => {
-            let left = Boxed::new(alloc, expr_in(alloc, call, left.get())?)?;
-            let right = Boxed::new(alloc, expr_in(alloc, call, right.get())?)?;
+            let left = boxed_expr_in(alloc, call, left)?;
+            let right = boxed_expr_in(alloc, call, right)?;
             let kind = ExprKind::Binary(*op, left, right);
             Ok(ExprTree { place, kind })
         }
     }
+}
+
+#[cycle(exprs)]
+fn boxed_expr_in(
+    alloc: Global,
+    call: &Call,
+    part: &Boxed<ExprTree>,
+) -> Result<Boxed<ExprTree>, AllocError>
+    ensures { IfOk result (λ t. t ≡ spec.expr_in (bindings call.now) part.now) }
+{
+    let part = expr_in(alloc, call, part.get())?;
+    Boxed::new(alloc, part)
 }
 
 /// A condition in a call.
@@ -62,25 +76,37 @@ fn cond_kind_in(alloc: Global, call: &Call, kind: &CondKind) -> Result<CondKind,
         CondKind::True => Ok(CondKind::True),
         CondKind::False => Ok(CondKind::False),
         CondKind::Compare(how, left, right) => {
-            let left = Boxed::new(alloc, expr_in(alloc, call, left.get())?)?;
-            let right = Boxed::new(alloc, expr_in(alloc, call, right.get())?)?;
+            let left = boxed_expr_in(alloc, call, left)?;
+            let right = boxed_expr_in(alloc, call, right)?;
             Ok(CondKind::Compare(*how, left, right))
         }
         CondKind::Not(part) => {
-            let part = cond_in(alloc, call, part.get())?;
-            Ok(CondKind::Not(Boxed::new(alloc, part)?))
+            let part = boxed_cond_in(alloc, call, part)?;
+            Ok(CondKind::Not(part))
         }
         CondKind::And(left, right) => {
-            let left = Boxed::new(alloc, cond_in(alloc, call, left.get())?)?;
-            let right = Boxed::new(alloc, cond_in(alloc, call, right.get())?)?;
+            let left = boxed_cond_in(alloc, call, left)?;
+            let right = boxed_cond_in(alloc, call, right)?;
             Ok(CondKind::And(left, right))
         }
         CondKind::Or(left, right) => {
-            let left = Boxed::new(alloc, cond_in(alloc, call, left.get())?)?;
-            let right = Boxed::new(alloc, cond_in(alloc, call, right.get())?)?;
+            let left = boxed_cond_in(alloc, call, left)?;
+            let right = boxed_cond_in(alloc, call, right)?;
             Ok(CondKind::Or(left, right))
         }
     }
+}
+
+#[cycle(conds)]
+fn boxed_cond_in(
+    alloc: Global,
+    call: &Call,
+    part: &Boxed<CondTree>,
+) -> Result<Boxed<CondTree>, AllocError>
+    ensures { IfOk result (λ t. t ≡ spec.cond_in (bindings call.now) part.now) }
+{
+    let part = cond_in(alloc, call, part.get())?;
+    Boxed::new(alloc, part)
 }
 
 /// A communication in a call.
@@ -160,29 +186,28 @@ fn stmt_kind_in(alloc: Global, call: &Call, kind: &StmtKind) -> Result<StmtKind,
             let value = expr_in(alloc, call, value)?;
             Ok(StmtKind::Log { value })
         }
-        StmtKind::If { test, yes, no } => {
-            let test = cond_in(alloc, call, test)?;
+        StmtKind::If {
+            test,
+            yes,
+            no: None,
+        } => if_in(alloc, call, yes.as_slice(), test),
+        StmtKind::If {
+            test,
+            yes,
+            no: Some(no),
+        } => {
             let yes = statements_in(alloc, call, yes.as_slice())?;
-            let no = match no {
-                Some(no) => Some(statements_in(alloc, call, no.as_slice())?),
-                None => None,
-            };
-            Ok(StmtKind::If { test, yes, no })
+            if_else_in(alloc, call, no.as_slice(), test, yes)
         }
         StmtKind::Pick { left, right } => {
             let left = statements_in(alloc, call, left.as_slice())?;
-            let right = statements_in(alloc, call, right.as_slice())?;
-            Ok(StmtKind::Pick { left, right })
+            pick_in(alloc, call, right.as_slice(), left)
         }
         StmtKind::Forever { body } => {
             let body = statements_in(alloc, call, body.as_slice())?;
             Ok(StmtKind::Forever { body })
         }
-        StmtKind::Loop { test, body } => {
-            let test = cond_in(alloc, call, test)?;
-            let body = statements_in(alloc, call, body.as_slice())?;
-            Ok(StmtKind::Loop { test, body })
-        }
+        StmtKind::Loop { test, body } => loop_in(alloc, call, body.as_slice(), test),
         StmtKind::Choice { branches } => {
             let branches = branches_in(alloc, call, branches.as_slice())?;
             Ok(StmtKind::Choice { branches })
@@ -191,17 +216,98 @@ fn stmt_kind_in(alloc: Global, call: &Call, kind: &StmtKind) -> Result<StmtKind,
             rates,
             domain,
             branches,
-        } => {
-            let rates = rates_in(alloc, call, rates.as_slice())?;
-            let domain = cond_in(alloc, call, domain)?;
-            let branches = branches_in(alloc, call, branches.as_slice())?;
-            Ok(StmtKind::Evolve {
-                rates,
-                domain,
-                branches,
-            })
-        }
+        } => evolve_in(alloc, call, branches.as_slice(), rates.as_slice(), domain),
     }
+}
+
+// The forms with several parts have functions of their own, whose first part is the one that they go down; a part that
+// stands in the call already is handed on.
+
+#[cycle(stmts)]
+fn if_in(
+    alloc: Global,
+    call: &Call,
+    yes: &[StmtTree],
+    test: &CondTree,
+) -> Result<StmtKind, AllocError>
+    ensures { IfOk result (λ t. t ≡ a.If (spec.cond_in (bindings call.now) test.now) (map (spec.stmt_in (bindings call.now)) yes.now) None) }
+{
+    let test = cond_in(alloc, call, test)?;
+    let yes = statements_in(alloc, call, yes)?;
+    Ok(StmtKind::If {
+        test,
+        yes,
+        no: None,
+    })
+}
+
+#[cycle(stmts)]
+fn if_else_in(
+    alloc: Global,
+    call: &Call,
+    no: &[StmtTree],
+    test: &CondTree,
+    yes: List<StmtTree>,
+) -> Result<StmtKind, AllocError>
+    ensures { IfOk result (λ t. t ≡ a.If (spec.cond_in (bindings call.now) test.now) yes (Some (map (spec.stmt_in (bindings call.now)) no.now))) }
+{
+    let test = cond_in(alloc, call, test)?;
+    let no = statements_in(alloc, call, no)?;
+    Ok(StmtKind::If {
+        test,
+        yes,
+        no: Some(no),
+    })
+}
+
+#[cycle(stmts)]
+fn pick_in(
+    alloc: Global,
+    call: &Call,
+    right: &[StmtTree],
+    left: List<StmtTree>,
+) -> Result<StmtKind, AllocError>
+    ensures { IfOk result (λ t. t ≡ a.Pick left (map (spec.stmt_in (bindings call.now)) right.now)) }
+{
+    let right = statements_in(alloc, call, right)?;
+    Ok(StmtKind::Pick { left, right })
+}
+
+#[cycle(stmts)]
+fn loop_in(
+    alloc: Global,
+    call: &Call,
+    body: &[StmtTree],
+    test: &CondTree,
+) -> Result<StmtKind, AllocError>
+    ensures { IfOk result (λ t. t ≡ a.Loop (spec.cond_in (bindings call.now) test.now) (map (spec.stmt_in (bindings call.now)) body.now)) }
+{
+    let test = cond_in(alloc, call, test)?;
+    let body = statements_in(alloc, call, body)?;
+    Ok(StmtKind::Loop { test, body })
+}
+
+#[cycle(stmts)]
+fn evolve_in(
+    alloc: Global,
+    call: &Call,
+    branches: &[BranchTree],
+    rates: &[RateTree],
+    domain: &CondTree,
+) -> Result<StmtKind, AllocError>
+    ensures { IfOk result (λ t. t ≡ a.Evolve
+        (map (spec.rate_in (bindings call.now)) rates.now)
+        (spec.cond_in (bindings call.now) domain.now)
+        (map (spec.branch_in (bindings call.now)) branches.now)) }
+{
+    let rates = rates_in(alloc, call, rates)?;
+    let domain = cond_in(alloc, call, domain)?;
+    let branches = branches_in(alloc, call, branches)?;
+    Ok(StmtKind::Evolve {
+        rates,
+        domain,
+        branches,
+    })
 }
 
 /// The statements of a module in a call.

@@ -1,6 +1,7 @@
 //! What is done with a process, as a row says it.
 
 use hc_frac::Frac;
+use hc_rows::number;
 
 /// What is done with a process.
 #[derive(Clone, Copy, Debug, PartialEq, Eq)]
@@ -22,12 +23,13 @@ pub(crate) fn act_of(word: &str) -> Option<Act> {
         return Some(Act::Pass(Frac::read(by.as_bytes())?));
     }
     if let Some(channel) = word.strip_prefix('!') {
-        return Some(Act::Send(channel.parse::<u32>().ok()?));
+        return Some(Act::Send(number(channel)?));
     }
     if let Some(gift) = word.strip_prefix('?') {
         let (channel, value) = gift.split_once('=')?;
+        let channel = number(channel)?;
         let value = Frac::read(value.as_bytes())?;
-        return Some(Act::Receive(channel.parse::<u32>().ok()?, value));
+        return Some(Act::Receive(channel, value));
     }
-    Some(Act::Stretch(word.parse::<u32>().ok()?))
+    Some(Act::Stretch(number(word)?))
 }

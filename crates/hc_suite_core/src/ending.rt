@@ -7,6 +7,7 @@ use hc_cross::{affine, end_moment};
 use hc_frac::Frac;
 use hc_limits::MOST_VARIABLES;
 use hc_list::Boxed;
+use hc_rows::Words;
 use hc_term::{Comparison, Cond, Expr, Rate, Stmt, System, form_of, is_affine};
 use std::alloc::{AllocError, Global};
 
@@ -125,7 +126,7 @@ fn or_below(alloc: Global, cond: Cond, limit: Frac) -> Result<Cond, AllocError> 
 
 /// The end moment of `!x >= 1 || !x >= 2 || ..`, with so many comparisons, where x begins with 0 and has the rate 1.
 pub(crate) fn end_of_many(alloc: Global, count: &str) -> Result<String, AllocError> {
-    let (Ok(count), Some(one)) = (count.trim().parse::<u32>(), Frac::new(1, 1)) else {
+    let (Some(count), Some(one)) = (Words::of(count).number(), Frac::new(1, 1)) else {
         return String::from_str(alloc, "unknown");
     };
     let mut cond = Cond::False;

@@ -1,10 +1,10 @@
 //! Turns whose silent steps are worked out beside the joint.
 
 use crate::running::{put_run, task_of};
-use crate::showing::{put_item, put_number};
 use hc_advance::Advance;
 use hc_joint::{Joint, Turn};
-use hc_term::System;
+use hc_rows::{Words, number, put_item, put_number, two_numbers};
+use hc_term::{System, Task};
 use std::alloc::{AllocError, Global};
 
 /// What is done with an advance. They go by their places in the order in which they were opened, from 0.
@@ -19,26 +19,20 @@ enum Hand {
     Turn(u32, usize),
 }
 
-/// The numbers of `PROCESS:ADVANCE`.
-fn read_pair(word: &str) -> Option<(u32, usize)> {
-    let (process, advance) = word.split_once(':')?;
-    Some((process.parse::<u32>().ok()?, advance.parse::<usize>().ok()?))
-}
-
 /// The act of a word: `o0`, `l0:1`, `w1` or `t0:1`.
 fn read_hand(word: &str) -> Option<Hand> {
     if let Some(process) = word.strip_prefix('o') {
-        return Some(Hand::Open(process.parse::<u32>().ok()?));
+        return Some(Hand::Open(number(process)?));
     }
     if let Some(advance) = word.strip_prefix('w') {
-        return Some(Hand::Work(advance.parse::<usize>().ok()?));
+        return Some(Hand::Work(number(advance)? as usize));
     }
     if let Some(pair) = word.strip_prefix('l') {
-        let (process, advance) = read_pair(pair)?;
-        return Some(Hand::Lease(process, advance));
+        let (process, advance) = two_numbers(pair, ':')?;
+        return Some(Hand::Lease(process, advance as usize));
     }
-    let (process, advance) = read_pair(word.strip_prefix('t')?)?;
-    Some(Hand::Turn(process, advance))
+    let (process, advance) = two_numbers(word.strip_prefix('t')?, ':')?;
+    Some(Hand::Turn(process, advance as usize))
 }
 
 /// The words of what a turn answers.
@@ -107,30 +101,49 @@ impl Table {
         };
         put_item(text, words)
     }
+
+    /// Does what each of the words says, and tells what came of it.
+    fn put_hands(
+        &mut self,
+        alloc: Global,
+        text: &mut String,
+        words: &str,
+    ) -> Result<(), AllocError> {
+        for word in words.split_whitespace() {
+            match read_hand(word) {
+                Some(hand) => self.put_hand(alloc, text, hand)?,
+                None => put_item(text, "unknown")?,
+            }
+        }
+        Ok(())
+    }
+
+    /// The run so far, and how many turns were worked out anew.
+    fn put_end(&self, text: &mut String) -> Result<(), AllocError> {
+        put_run(text, &self.joint, false)?;
+        put_item(text, "recomputed")?;
+        put_number(text, self.joint.recomputed())
+    }
+}
+
+/// What comes of these words with a run of the task.
+fn told(alloc: Global, task: Task, words: &str) -> Result<String, AllocError> {
+    let joint = Joint::open(alloc, task)?;
+    let mut table = Table {
+        joint,
+        advances: Vec::new(alloc),
+    };
+    let mut text = String::new(alloc);
+    table.put_hands(alloc, &mut text, words)?;
+    table.put_end(&mut text)?;
+    Ok(text)
 }
 
 /// The answer to `HORIZON LIMIT SEED ACTS`: what comes of each act, and the run so far.
 pub(crate) fn hands_of(alloc: Global, words: &str, system: &System) -> Result<String, AllocError> {
-    let mut words = words.split_whitespace();
-    let horizon = words.next().unwrap_or("");
-    let limit = words.next().unwrap_or("");
-    let seed = words.next().unwrap_or("");
-    let Some(task) = task_of(alloc, system, horizon, limit, seed)? else {
-        return String::from_str(alloc, "unknown");
-    };
-    let mut text = String::new(alloc);
-    let mut table = Table {
-        joint: Joint::open(alloc, task)?,
-        advances: Vec::new(alloc),
-    };
-    for word in words {
-        match read_hand(word) {
-            Some(hand) => table.put_hand(alloc, &mut text, hand)?,
-            None => put_item(&mut text, "unknown")?,
-        }
+    let mut words = Words::of(words);
+    match task_of(alloc, system, &mut words)? {
+        Some(task) => told(alloc, task, words.rest()),
+        None => String::from_str(alloc, "unknown"),
     }
-    put_run(&mut text, &table.joint, false)?;
-    put_item(&mut text, "recomputed")?;
-    put_number(&mut text, table.joint.recomputed())?;
-    Ok(text)
 }

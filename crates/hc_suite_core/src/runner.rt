@@ -5,9 +5,10 @@ ghost use Rattle.hc_rational.specs.Words.{◌≤ℚ◌};
 ghost use Rattle.hc_step.specs.Usable.{is_usable_code};
 
 use crate::acts::Act;
-use crate::showing::{put_item, put_post, put_stretch};
+use crate::showing::{put_post, put_stretch};
 use hc_code::{ProcCode, compile};
 use hc_frac::Frac;
+use hc_rows::put_item;
 use hc_step::{Local, code_laws};
 use hc_term::System;
 use std::alloc::{AllocError, Global};

@@ -1,9 +1,9 @@
 //! Runs of a system, turn by turn.
 
-use crate::showing::{put_item, put_number, put_word};
 use hc_frac::Frac;
 use hc_joint::Joint;
 use hc_limits::{DEFAULT_HORIZON, MOST_STEPS};
+use hc_rows::{Words, number, put_item, put_number, put_word};
 use hc_term::{Item, Step, Stop, System, Task};
 use std::alloc::{AllocError, Global};
 
@@ -72,25 +72,24 @@ pub(crate) fn put_run(
     put_number(text, joint.turns())
 }
 
-/// The task of simulating a copy of the system with these words, where they are numbers in range; `-` is a horizon of 100.
+/// The horizon that a word says; `-` is one of 100.
+fn horizon_of(word: &str) -> Option<Frac> {
+    match word {
+        "-" => Frac::new(DEFAULT_HORIZON, 1),
+        _ => Frac::read(word.as_bytes()),
+    }
+}
+
+/// The task of simulating a copy of the system by the words `HORIZON LIMIT SEED`, where they are numbers in range.
 pub(crate) fn task_of(
     alloc: Global,
     system: &System,
-    horizon: &str,
-    limit: &str,
-    seed: &str,
+    words: &mut Words<'_>,
 ) -> Result<Option<Task>, AllocError> {
-    let horizon = match horizon {
-        "-" => Frac::new(DEFAULT_HORIZON, 1),
-        word => Frac::read(word.as_bytes()),
-    };
-    let Some(horizon) = horizon else {
-        return Ok(None);
-    };
-    let Ok(limit) = limit.parse::<u32>() else {
-        return Ok(None);
-    };
-    let Ok(seed) = seed.parse::<u64>() else {
+    let horizon = horizon_of(words.word());
+    let limit = words.number();
+    let seed = words.long_number();
+    let (Some(horizon), Some(limit), Some(seed)) = (horizon, limit, seed) else {
         return Ok(None);
     };
     if horizon.sign() <= 0 || limit < 1 || u64::from(limit) > MOST_STEPS {
@@ -99,26 +98,31 @@ pub(crate) fn task_of(
     Ok(Some(Task::new(system.copy(alloc)?, seed, horizon, limit)))
 }
 
-/// The answer to `HORIZON LIMIT SEED HOW`: the run of the system that comes of `HOW`.
-pub(crate) fn run_of(alloc: Global, words: &str, system: &System) -> Result<String, AllocError> {
-    let mut words = words.split_whitespace();
-    let horizon = words.next().unwrap_or("");
-    let limit = words.next().unwrap_or("");
-    let seed = words.next().unwrap_or("");
-    let Some(task) = task_of(alloc, system, horizon, limit, seed)? else {
-        return String::from_str(alloc, "unknown");
-    };
+/// Takes so many turns, and tells which of them were taken.
+fn put_turns(text: &mut String, joint: &mut Joint, turns: u32) -> Result<(), AllocError> {
+    for _turn in 0..turns {
+        put_item(text, if joint.forward() { "yes" } else { "no" })?;
+    }
+    Ok(())
+}
+
+/// The run of the task that comes of `HOW`.
+fn told(alloc: Global, task: Task, how: &str) -> Result<String, AllocError> {
     let mut joint = Joint::open(alloc, task)?;
     let mut text = String::new(alloc);
-    let how = words.next().unwrap_or("");
-    match how.parse::<u32>() {
-        Ok(turns) => {
-            for _turn in 0..turns {
-                put_item(&mut text, if joint.forward() { "yes" } else { "no" })?;
-            }
-        }
-        Err(_) => joint.finish(),
+    match number(how) {
+        Some(turns) => put_turns(&mut text, &mut joint, turns)?,
+        None => joint.finish(),
     }
     put_run(&mut text, &joint, how == "count")?;
     Ok(text)
+}
+
+/// The answer to `HORIZON LIMIT SEED HOW`: the run of the system that comes of `HOW`.
+pub(crate) fn run_of(alloc: Global, words: &str, system: &System) -> Result<String, AllocError> {
+    let mut words = Words::of(words);
+    match task_of(alloc, system, &mut words)? {
+        Some(task) => told(alloc, task, words.word()),
+        None => String::from_str(alloc, "unknown"),
+    }
 }

@@ -1,29 +1,9 @@
-//! The text of an answer: items with a comma between them, each of some words.
+//! What a process did and what it shows, as items of an answer.
 
+use hc_rows::{put_item, put_number, put_word};
 use hc_step::Stretch;
 use hc_term::{Offer, Post, StretchEnd};
-use itoa::Buffer;
 use std::alloc::AllocError;
-
-/// Begins an item with this word.
-pub(crate) fn put_item(text: &mut String, word: &str) -> Result<(), AllocError> {
-    if !text.is_empty() {
-        text.push_str(", ")?;
-    }
-    text.push_str(word)
-}
-
-/// Puts a word behind the last.
-pub(crate) fn put_word(text: &mut String, word: &str) -> Result<(), AllocError> {
-    text.push(' ')?;
-    text.push_str(word)
-}
-
-/// Puts the number behind the last word.
-pub(crate) fn put_number(text: &mut String, number: u64) -> Result<(), AllocError> {
-    let mut buffer = Buffer::new();
-    put_word(text, buffer.format(number))
-}
 
 /// How a stretch ended, and after how many steps.
 pub(crate) fn put_stretch(text: &mut String, stretch: &Stretch) -> Result<(), AllocError> {

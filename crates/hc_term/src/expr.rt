@@ -83,6 +83,7 @@ pub enum Cond {
 
 impl Expr {
     /// An equal expression.
+    #[cycle(expr_copies)]
     pub fn copy(&self, alloc: Global) -> Result<Expr, AllocError>
         ensures { IfOk result (λ t. t ≡ self.now) }
     {
@@ -90,20 +91,29 @@ impl Expr {
             Expr::Number(number) => Ok(Expr::Number(*number)),
             Expr::Variable(variable) => Ok(Expr::Variable(*variable)),
             Expr::Neg(part) => {
-                let part = part.get().copy(alloc)?;
-                Ok(Expr::Neg(Boxed::new(alloc, part)?))
+                let part = boxed_expr(alloc, part)?;
+                Ok(Expr::Neg(part))
             }
             Expr::Binary(op, left, right) => {
-                let left = left.get().copy(alloc)?;
-                let right = right.get().copy(alloc)?;
-                Ok(Expr::Binary(*op, Boxed::new(alloc, left)?, Boxed::new(alloc, right)?))
+                let left = boxed_expr(alloc, left)?;
+                let right = boxed_expr(alloc, right)?;
+                Ok(Expr::Binary(*op, left, right))
             }
         }
     }
 }
 
+#[cycle(expr_copies)]
+fn boxed_expr(alloc: Global, part: &Boxed<Expr>) -> Result<Boxed<Expr>, AllocError>
+    ensures { IfOk result (λ t. t ≡ part.now) }
+{
+    let copy = part.get().copy(alloc)?;
+    Boxed::new(alloc, copy)
+}
+
 impl Cond {
     /// An equal condition.
+    #[cycle(cond_copies)]
     pub fn copy(&self, alloc: Global) -> Result<Cond, AllocError>
         ensures { IfOk result (λ t. t ≡ self.now) }
     {
@@ -111,24 +121,32 @@ impl Cond {
             Cond::True => Ok(Cond::True),
             Cond::False => Ok(Cond::False),
             Cond::Compare(how, left, right) => {
-                let left = left.get().copy(alloc)?;
-                let right = right.get().copy(alloc)?;
-                Ok(Cond::Compare(*how, Boxed::new(alloc, left)?, Boxed::new(alloc, right)?))
+                let left = boxed_expr(alloc, left)?;
+                let right = boxed_expr(alloc, right)?;
+                Ok(Cond::Compare(*how, left, right))
             }
             Cond::Not(part) => {
-                let part = part.get().copy(alloc)?;
-                Ok(Cond::Not(Boxed::new(alloc, part)?))
+                let part = boxed_cond(alloc, part)?;
+                Ok(Cond::Not(part))
             }
             Cond::And(left, right) => {
-                let left = left.get().copy(alloc)?;
-                let right = right.get().copy(alloc)?;
-                Ok(Cond::And(Boxed::new(alloc, left)?, Boxed::new(alloc, right)?))
+                let left = boxed_cond(alloc, left)?;
+                let right = boxed_cond(alloc, right)?;
+                Ok(Cond::And(left, right))
             }
             Cond::Or(left, right) => {
-                let left = left.get().copy(alloc)?;
-                let right = right.get().copy(alloc)?;
-                Ok(Cond::Or(Boxed::new(alloc, left)?, Boxed::new(alloc, right)?))
+                let left = boxed_cond(alloc, left)?;
+                let right = boxed_cond(alloc, right)?;
+                Ok(Cond::Or(left, right))
             }
         }
     }
+}
+
+#[cycle(cond_copies)]
+fn boxed_cond(alloc: Global, part: &Boxed<Cond>) -> Result<Boxed<Cond>, AllocError>
+    ensures { IfOk result (λ t. t ≡ part.now) }
+{
+    let copy = part.get().copy(alloc)?;
+    Boxed::new(alloc, copy)
 }

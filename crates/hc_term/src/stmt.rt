@@ -1,6 +1,7 @@
 //! Statements.
 
 ghost use Rattle.std.specs.Prelude.{◌≡◌, IfOk};
+ghost use Rattle.hc_term.specs.declared.stmt.Stmt.TheVariants as a;
 
 use crate::{Cond, Expr};
 use hc_list::List;
@@ -149,25 +150,18 @@ impl Stmt {
                 Ok(Stmt::Log { value })
             }
             Stmt::If { test, yes, no } => {
-                let test = test.copy(alloc)?;
                 let yes = copy_statements(alloc, yes.as_slice())?;
-                let no = copy_statements(alloc, no.as_slice())?;
-                Ok(Stmt::If { test, yes, no })
+                copy_if(alloc, no.as_slice(), test, yes)
             }
             Stmt::Pick { left, right } => {
                 let left = copy_statements(alloc, left.as_slice())?;
-                let right = copy_statements(alloc, right.as_slice())?;
-                Ok(Stmt::Pick { left, right })
+                copy_pick(alloc, right.as_slice(), left)
             }
             Stmt::Forever { body } => {
                 let body = copy_statements(alloc, body.as_slice())?;
                 Ok(Stmt::Forever { body })
             }
-            Stmt::Loop { test, body } => {
-                let test = test.copy(alloc)?;
-                let body = copy_statements(alloc, body.as_slice())?;
-                Ok(Stmt::Loop { test, body })
-            }
+            Stmt::Loop { test, body } => copy_loop(alloc, body.as_slice(), test),
             Stmt::Choice { branches } => {
                 let branches = copy_branches(alloc, branches.as_slice())?;
                 Ok(Stmt::Choice { branches })
@@ -176,18 +170,57 @@ impl Stmt {
                 rates,
                 domain,
                 branches,
-            } => {
-                let rates = copy_rates(alloc, rates.as_slice())?;
-                let domain = domain.copy(alloc)?;
-                let branches = copy_branches(alloc, branches.as_slice())?;
-                Ok(Stmt::Evolve {
-                    rates,
-                    domain,
-                    branches,
-                })
-            }
+            } => copy_evolve(alloc, branches.as_slice(), rates.as_slice(), domain),
         }
     }
+}
+
+// The forms with several parts have functions of their own, whose first part is the one that they go down; a part that
+// was copied before is handed on.
+
+#[cycle(stmt_copies)]
+fn copy_if(alloc: Global, no: &[Stmt], test: &Cond, yes: List<Stmt>) -> Result<Stmt, AllocError>
+    ensures { IfOk result (λ t. t ≡ a.If test.now yes no.now) }
+{
+    let test = test.copy(alloc)?;
+    let no = copy_statements(alloc, no)?;
+    Ok(Stmt::If { test, yes, no })
+}
+
+#[cycle(stmt_copies)]
+fn copy_pick(alloc: Global, right: &[Stmt], left: List<Stmt>) -> Result<Stmt, AllocError>
+    ensures { IfOk result (λ t. t ≡ a.Pick left right.now) }
+{
+    let right = copy_statements(alloc, right)?;
+    Ok(Stmt::Pick { left, right })
+}
+
+#[cycle(stmt_copies)]
+fn copy_loop(alloc: Global, body: &[Stmt], test: &Cond) -> Result<Stmt, AllocError>
+    ensures { IfOk result (λ t. t ≡ a.Loop test.now body.now) }
+{
+    let test = test.copy(alloc)?;
+    let body = copy_statements(alloc, body)?;
+    Ok(Stmt::Loop { test, body })
+}
+
+#[cycle(stmt_copies)]
+fn copy_evolve(
+    alloc: Global,
+    branches: &[Branch],
+    rates: &[Rate],
+    domain: &Cond,
+) -> Result<Stmt, AllocError>
+    ensures { IfOk result (λ t. t ≡ a.Evolve rates.now domain.now branches.now) }
+{
+    let rates = copy_rates(alloc, rates)?;
+    let domain = domain.copy(alloc)?;
+    let branches = copy_branches(alloc, branches)?;
+    Ok(Stmt::Evolve {
+        rates,
+        domain,
+        branches,
+    })
 }
 
 impl Branch {

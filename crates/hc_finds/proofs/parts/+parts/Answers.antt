@@ -1,6 +1,6 @@
 use Rattle.std.proofs.Common.{rules, arith}
 use Rattle.std.proofs.lemmas.Grind.{common_steps}
-use Rattle.hc_finds.proofs.PartForms.{parts-if, parts-else, parts-pick, parts-forever, parts-evolve, parts-tested, parts-loop, guards-next}
+use Rattle.hc_finds.proofs.PartForms.{parts-if, parts-else, parts-pick, parts-forever, parts-evolve, parts-round, guards-next}
 use Rattle.hc_finds.proofs.parts.+parts.Goals as goal
 
 pub add_parts-returns-in-Some : goal.add_parts-returns-in-Some
@@ -23,20 +23,15 @@ add_parts-returns-in-Forever t c =
     let form = parts-forever c.args.tests_first c.args.stmt.now c.in-Forever.body (cc) in
     search (rules, form)
 
-pub add_parts-returns-in_ok-push-in-Evolve : goal.add_parts-returns-in_ok-push-in-Evolve
-add_parts-returns-in_ok-push-in-Evolve t c =
+pub add_parts-returns-in_ok-add_motion-in-Evolve : goal.add_parts-returns-in_ok-add_motion-in-Evolve
+add_parts-returns-in_ok-add_motion-in-Evolve t c =
     let form = parts-evolve c.args.tests_first c.args.stmt.now c.in-Evolve.rates c.in-Evolve.domain c.in-Evolve.branches (cc) in
     grind (arith, common_steps, form)
 
-pub add_parts-returns-in_ok-push-in-Loop : goal.add_parts-returns-in_ok-push-in-Loop
-add_parts-returns-in_ok-push-in-Loop t c =
-    let form = parts-tested c.args.tests_first c.args.stmt.now c.in-Loop.test c.in-Loop.body (cc) (cc) in
-    grind (arith, common_steps, form)
-
-pub add_parts-returns-in_ok-push-in-Loop-2 : goal.add_parts-returns-in_ok-push-in-Loop-2
-add_parts-returns-in_ok-push-in-Loop-2 t c =
-    let form = parts-loop c.args.tests_first c.args.stmt.now c.in-Loop.test c.in-Loop.body (cc) (cc) in
-    grind (arith, common_steps, form)
+pub add_parts-returns-in-Loop : goal.add_parts-returns-in-Loop
+add_parts-returns-in-Loop t c =
+    let form = parts-round c.args.tests_first c.args.stmt.now c.in-Loop.test c.in-Loop.body (cc) in
+    search (rules, form)
 
 pub add_guards-loop-at-preserved : goal.add_guards-loop-at-preserved
 add_guards-loop-at-preserved t c =
