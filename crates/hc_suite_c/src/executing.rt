@@ -1,10 +1,10 @@
 //! Programs that are run on the thread machine, under the schedule of a seed.
 
-use crate::asking::text_of;
-use crate::reading::{behind_prelude, on_one_line, read};
+use crate::reading::{behind_prelude, read};
 use hc_cfacts::program_laws;
 use hc_cmach::{ExecEnd, Kind};
 use hc_crun::{ExecStop, exec_counted};
+use hc_rows::{Words, on_one_line, text_of};
 use hc_world::MemSink;
 use std::alloc::{AllocError, Global};
 
@@ -39,11 +39,10 @@ fn ending(alloc: Global, end: ExecEnd) -> Result<String, AllocError> {
 
 /// The seed and the number of items in the words `SEED STEPS`.
 fn settings(words: &str) -> (u64, u32) {
-    let (seed, steps) = words.split_once(' ').unwrap_or((words, ""));
-    (
-        seed.parse::<u64>().unwrap_or(0),
-        steps.parse::<u32>().unwrap_or(0),
-    )
+    let mut words = Words::of(words);
+    let seed = words.long_number().unwrap_or(0);
+    let steps = words.number().unwrap_or(0);
+    (seed, steps)
 }
 
 /// The answer to a row `SEED STEPS | UNIT`: how the unit's program ended, how many steps moved, and the text that it printed.
@@ -60,7 +59,7 @@ pub(crate) fn executed(alloc: Global, row: &str) -> Result<String, AllocError> {
     match exec_counted(alloc, &program, seed, steps, &mut sink, &mut moved) {
         Ok(end) => {
             let end = ending(alloc, end)?;
-            let printed = on_one_line(alloc, str::from_utf8(sink.bytes()).unwrap_or(""))?;
+            let printed = on_one_line(alloc, sink.bytes())?;
             format!(in alloc; "{end} | moved {moved} | {printed}")
         }
         Err(ExecStop::Memory) => String::from_str(alloc, "Memory"),

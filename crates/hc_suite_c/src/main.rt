@@ -2,15 +2,13 @@
 //! are the same program, how it is written, what it does on the thread machine; and about the lines of the prelude.
 #![tactic(auto)]
 
-mod asking;
 mod executing;
 mod prelude_lines;
 mod reading;
 mod showing;
-mod texts;
 
-use asking::Asked;
 use executing::executed;
+use hc_rows::Asked;
 use prelude_lines::prelude_line;
 use reading::{compared, read_unit, read_whole, written};
 use std::alloc::{AllocError, Global};

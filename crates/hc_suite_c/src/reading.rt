@@ -9,6 +9,7 @@ use hc_cgrammar::{PRELUDE, Refusal};
 use hc_cread::{CStop, c_read};
 use hc_cwrite::{c_write, reading_back};
 use hc_limits::MOST_TEXT_BYTES;
+use hc_rows::on_one_line;
 use std::alloc::{AllocError, Global};
 
 /// The program of a text, or why it is none; `None` for a longer text than may be read.
@@ -70,15 +71,5 @@ pub(crate) fn written(alloc: Global, unit: &[u8]) -> Result<String, AllocError> 
     reading_back();
     let canonical = c_write(alloc, &program)?;
     let unit = canonical.strip_prefix(PRELUDE).unwrap_or(b"");
-    on_one_line(alloc, str::from_utf8(unit).unwrap_or(""))
-}
-
-/// A text with `\n` for each newline.
-pub(crate) fn on_one_line(alloc: Global, text: &str) -> Result<String, AllocError> {
-    let mut line = String::new(alloc);
-    for part in text.lines() {
-        line.push_str(part)?;
-        line.push_str("\\n")?;
-    }
-    Ok(line)
+    on_one_line(alloc, unit)
 }

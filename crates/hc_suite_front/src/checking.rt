@@ -3,13 +3,13 @@
 use crate::expanding::flat_of;
 use hc_check::check;
 use hc_frac::Name;
+use hc_rows::put_word;
 use hc_term::System;
 use std::alloc::{AllocError, Global};
 
 fn push_names(text: &mut String, names: &[Name]) -> Result<(), AllocError> {
     for name in names {
-        text.push_str(" ")?;
-        text.push_str(name.text())?;
+        put_word(text, name.text())?;
     }
     Ok(())
 }

@@ -2,16 +2,14 @@
 //! printed, what they expand to, whether they are accepted, and where they are refused; and about made sources.
 #![tactic(auto)]
 
-mod asking;
 mod checking;
 mod expanding;
 mod making;
 mod reading;
-mod texts;
 
-use asking::Asked;
 use checking::checked;
 use expanding::{expanded, expanded_as};
+use hc_rows::Asked;
 use making::made_as;
 use reading::{compared, parsed, printed};
 use std::alloc::{AllocError, Global};

@@ -2,14 +2,14 @@
 
 use hc_limits::MOST_PAIRS;
 use hc_make::made_source;
+use hc_rows::Words;
 use std::alloc::{AllocError, Global};
 
 /// The number of pairs and the seed of `PAIRS SEED`.
 fn numbers_in(row: &[u8]) -> Option<(u32, u64)> {
-    let text = std::str::from_utf8(row).ok()?;
-    let (pairs, seed) = text.split_once(" ")?;
-    let pairs = pairs.parse::<u32>().ok()?;
-    let seed = seed.parse::<u64>().ok()?;
+    let mut words = Words::of(str::from_utf8(row).ok()?);
+    let pairs = words.number()?;
+    let seed = words.long_number()?;
     Some((pairs, seed))
 }
 

@@ -7,6 +7,7 @@ use hc_ast::{Tree, same_tree};
 use hc_limits::MOST_SOURCE_BYTES;
 use hc_parse::{ParseStop, parse};
 use hc_print::print;
+use hc_rows::on_one_line;
 use std::alloc::{AllocError, Global};
 
 /// The tree of a text, or why it has none; `None` for a longer text than a source may be.
@@ -50,7 +51,5 @@ pub(crate) fn printed(alloc: Global, text: &[u8]) -> Result<String, AllocError> 
         return String::from_str(alloc, "no source");
     };
     let spelling = print(alloc, &tree)?;
-    str::from_utf8(spelling.as_slice())
-        .unwrap_or("no text")
-        .replace(alloc, "\n", "\\n")
+    on_one_line(alloc, spelling.as_slice())
 }

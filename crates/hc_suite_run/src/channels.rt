@@ -1,8 +1,8 @@
 //! What the run without threads hands over on each channel.
 
-use crate::texts::on_one_line;
 use hc_det::channels_text;
 use hc_joint::Joint;
+use hc_rows::on_one_line;
 use hc_term::Task;
 use std::alloc::{AllocError, Global};
 

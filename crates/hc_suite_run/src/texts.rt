@@ -1,6 +1,7 @@
 //! The text of a run.
 
 use hc_joint::Joint;
+use hc_rows::on_one_line;
 use hc_sim::write_history;
 use hc_world::MemSink;
 use std::alloc::{AllocError, Global};
@@ -26,13 +27,6 @@ pub(crate) fn are_same_texts(
     let one = written(alloc, one)?;
     let other = written(alloc, other)?;
     Ok(one.bytes() == other.bytes())
-}
-
-/// The text on one line, with `\n` for each newline.
-pub(crate) fn on_one_line(alloc: Global, text: &[u8]) -> Result<String, AllocError> {
-    str::from_utf8(text)
-        .unwrap_or("no text")
-        .replace(alloc, "\n", "\\n")
 }
 
 /// The text of the run on one line.

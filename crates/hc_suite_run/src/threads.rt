@@ -3,6 +3,7 @@
 use crate::texts::are_same_texts;
 use crate::trails::agree;
 use hc_joint::Joint;
+use hc_rows::Words;
 use hc_run::{OpenGate, Outcome, run_on};
 use hc_term::Task;
 use std::alloc::{AllocError, Global};
@@ -46,12 +47,12 @@ pub(crate) struct Asked {
 impl Asked {
     /// The numbers of `WORKERS THREADS TIMES`; what is no number is 0.
     pub(crate) fn of(likeness: Likeness, words: &str) -> Asked {
-        let mut words = words.split_whitespace();
+        let mut words = Words::of(words);
         Asked {
             likeness,
-            workers: words.next().unwrap_or("").parse::<u32>().unwrap_or(0),
-            threads: words.next().unwrap_or("").parse::<u32>().unwrap_or(0),
-            times: words.next().unwrap_or("").parse::<u32>().unwrap_or(0),
+            workers: words.number().unwrap_or(0),
+            threads: words.number().unwrap_or(0),
+            times: words.number().unwrap_or(0),
         }
     }
 

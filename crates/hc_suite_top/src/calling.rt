@@ -4,6 +4,7 @@ use crate::reports::report_shown;
 use crate::worlds::World;
 use hc_cgrammar::PRELUDE;
 use hc_cmd::{answer, answer_run};
+use hc_rows::on_one_line;
 use hc_run::OpenGate;
 use hc_world::{MemSink, MemSource};
 use std::alloc::{AllocError, Global};
@@ -55,7 +56,7 @@ fn shown(alloc: Global, bytes: &[u8]) -> Result<String, AllocError> {
     if text.starts_with("recomputed ") {
         return report_shown(alloc, text);
     }
-    text.replace(alloc, "\n", "\\n")
+    on_one_line(alloc, bytes)
 }
 
 /// Makes the call, on threads where the second word is `run`, and tells the status.

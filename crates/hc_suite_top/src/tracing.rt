@@ -1,19 +1,15 @@
 //! Trace texts that are read.
 
 use hc_frac::Name;
+use hc_rows::put_word;
 use hc_trace::{
     EndKind, Trace, TraceEnd, TraceEvent, TraceLine, TraceStop, Version, read_trace, split_text,
 };
 use std::alloc::{AllocError, Global};
 
-fn push_word(text: &mut String, word: &str) -> Result<(), AllocError> {
-    text.push_str(" ")?;
-    text.push_str(word)
-}
-
 fn push_name(text: &mut String, name: &Option<Name>) -> Result<(), AllocError> {
     match name {
-        Some(name) => push_word(text, name.text()),
+        Some(name) => put_word(text, name.text()),
         None => Ok(()),
     }
 }
@@ -23,8 +19,8 @@ fn push_line(text: &mut String, line: &TraceLine) -> Result<(), AllocError> {
     text.push_str(line.at.text().as_str())?;
     match &line.event {
         TraceEvent::Delay { by } => {
-            push_word(text, "delay")?;
-            push_word(text, by.text().as_str())
+            put_word(text, "delay")?;
+            put_word(text, by.text().as_str())
         }
         TraceEvent::Comm {
             channel,
@@ -32,16 +28,16 @@ fn push_line(text: &mut String, line: &TraceLine) -> Result<(), AllocError> {
             receiver,
             value,
         } => {
-            push_word(text, "comm")?;
-            push_word(text, channel.text())?;
+            put_word(text, "comm")?;
+            put_word(text, channel.text())?;
             push_name(text, sender)?;
             push_name(text, receiver)?;
-            push_word(text, value.text().as_str())
+            put_word(text, value.text().as_str())
         }
         TraceEvent::Log { process, value } => {
-            push_word(text, "log")?;
-            push_word(text, process.text())?;
-            push_word(text, value.text().as_str())
+            put_word(text, "log")?;
+            put_word(text, process.text())?;
+            put_word(text, value.text().as_str())
         }
     }
 }
@@ -55,8 +51,8 @@ fn push_end(text: &mut String, end: &TraceEnd) -> Result<(), AllocError> {
         EndKind::Limit => "limit",
         EndKind::Overflow => "overflow",
     };
-    push_word(text, kind)?;
-    push_word(text, end.at.text().as_str())?;
+    put_word(text, kind)?;
+    put_word(text, end.at.text().as_str())?;
     push_name(text, &end.who)
 }
 
