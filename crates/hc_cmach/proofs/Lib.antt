@@ -1,5 +1,4 @@
 pub mod Named
 pub mod Worths
 pub mod Stepping
-pub mod Runs
 pub mod Pair

@@ -1,3 +1,4 @@
+pub mod Laws
 pub mod Reduction
 pub mod ThreadLaws
 pub mod Carried

@@ -2,7 +2,8 @@
 use Rattle.std.specs.Prelude.{◌≡◌, ◌⊎◌, ℕ, zero, suc, Bool, true, false, List, [], ◌∷◌, ◌++◌, Option, Some, None}
 use Rattle.std.proofs.Common.{refl, sym, ap, subst, ◌∙◌, inl, inr, arith}
 use Rattle.std.proofs.lemmas.Bool.{eqb-true, eq-eqb}
-use Rattle.hc_schedule.specs.Sections.{Item, Step, Wake, steps, Moves, run, IsSafe, is_step_of, fits, InWholeSections, is_calm, EverySchedule, is_of, Swap, Laws}
+use Rattle.hc_schedule.specs.Sections.{Item, Step, Wake, steps, Moves, run, IsSafe, is_step_of, fits, InWholeSections, is_calm, EverySchedule, is_of, Swap}
+use Rattle.hc_schedule.proofs.Laws.{Laws}
 
 same_thread : (a b : ℕ) → ◌≡◌ {A = Option ℕ} (Some a) (Some b) → a ≡ b
 same_thread a b e = grind arith
@@ -10,7 +11,7 @@ same_thread a b e = grind arith
 module _ {St : Type 0} (m : Moves St) (laws : Laws m) where
   -- ---- schedules one after the other
 
-  run_append : (s : St) (u v : List Item) → run m s (u ++ v) ≡ run m (run m s u) v
+  pub run_append : (s : St) (u v : List Item) → run m s (u ++ v) ≡ run m (run m s u) v
   run_append s [] v = refl
   run_append s (i ∷ u) v = run_append (m.next s i) u v
 
@@ -39,7 +40,7 @@ module _ {St : Type 0} (m : Moves St) (laws : Laws m) where
   Holds o a zero = Unit {0}
   Holds o a (suc n) = (m.owner (m.next a (Step o)) ≡ Some o) × Holds o (m.next a (Step o)) n
 
-  owner_held : (o : ℕ) (a : St) (n : ℕ) → Holds o a (suc n) → m.owner (run m a (steps o (suc n))) ≡ Some o
+  pub owner_held : (o : ℕ) (a : St) (n : ℕ) → Holds o a (suc n) → m.owner (run m a (steps o (suc n))) ≡ Some o
   owner_held o a zero h = h.0
   owner_held o a (suc n) h = owner_held o (m.next a (Step o)) n h.1
 
@@ -48,7 +49,7 @@ module _ {St : Type 0} (m : Moves St) (laws : Laws m) where
   run_more o a zero = refl
   run_more o a (suc n) = run_more o (m.next a (Step o)) n
 
-  holds_more : (o : ℕ) (a : St) (n : ℕ) → Holds o a n → m.owner (m.next (run m a (steps o n)) (Step o)) ≡ Some o → Holds o a (suc n)
+  pub holds_more : (o : ℕ) (a : St) (n : ℕ) → Holds o a n → m.owner (m.next (run m a (steps o n)) (Step o)) ≡ Some o → Holds o a (suc n)
   holds_more o a zero h e = (e, tt)
   holds_more o a (suc n) h e = (h.0, holds_more o (m.next a (Step o)) n h.1 e)
 
@@ -247,6 +248,22 @@ module _ {St : Type 0} (m : Moves St) (laws : Laws m) where
 
 -- ---- schedules in whole sections, by what one thread does alone
 
+module _ {St : Type 0} (m : Moves St) (laws : Laws m) where
+  -- what the owner's step leaves owned is still its own
+  pub stays : (a : St) (o n r : ℕ) → Holds m laws o a n → (m.owner (run m a (steps o n)) ≡ None) ⊎ (m.owner (run m a (steps o n)) ≡ Some o) →
+      m.owner (m.next (run m a (steps o n)) (Step o)) ≡ Some r → r ≡ o
+  stays a o n r h own e = by (laws.gains (run m a (steps o n)) (Step o) r e) own
+    where
+      by : (m.owner (run m a (steps o n)) ≡ Some r) ⊎ (Step o ≡ Step r) → (m.owner (run m a (steps o n)) ≡ None) ⊎ (m.owner (run m a (steps o n)) ≡ Some o) → r ≡ o
+      by (inl p) (inl q) = absurd (let n : ◌≡◌ {A = Option ℕ} None (Some r) = sym q ∙ p in cc)
+      by (inl p) (inr q) = same_thread r o (sym p ∙ q)
+      by (inr p) q = cc
+
+  -- who owns the mutex after the steps
+  pub owns_now : (a : St) (o n : ℕ) → m.owner a ≡ None → Holds m laws o a n → (m.owner (run m a (steps o n)) ≡ None) ⊎ (m.owner (run m a (steps o n)) ≡ Some o)
+  owns_now a o zero f h = inl f
+  owns_now a o (suc n) f h = inr (owner_held m laws o a n h)
+
 module _ {St : Type 0} (m : Moves St) (laws : Laws m) (Inv : St → Type 0)
     (section : (a : St) (o n : ℕ) → m.owner a ≡ None → Inv a → Holds m laws o a n →
     (m.undefined (run m a (steps o n)) (Step o) ≡ false) × (m.owner (run m a (steps o (suc n))) ≡ None → Inv (run m a (steps o (suc n)))))
@@ -268,27 +285,13 @@ module _ {St : Type 0} (m : Moves St) (laws : Laws m) (Inv : St → Type 0)
   abbrev pub Goal : List Item → Type 0
   Goal v = (a : St) (o n : ℕ) → m.owner a ≡ None → Inv a → Holds m laws o a n → InWholeSections m (run m a (steps o n)) v → Reached (run m a (steps o n)) v
 
-  stays : (a : St) (o n r : ℕ) → Holds m laws o a n → (m.owner (run m a (steps o n)) ≡ None) ⊎ (m.owner (run m a (steps o n)) ≡ Some o) →
-      m.owner (m.next (run m a (steps o n)) (Step o)) ≡ Some r → r ≡ o
-  stays a o n r h own e = by (laws.gains (run m a (steps o n)) (Step o) r e) own
-    where
-      by : (m.owner (run m a (steps o n)) ≡ Some r) ⊎ (Step o ≡ Step r) → (m.owner (run m a (steps o n)) ≡ None) ⊎ (m.owner (run m a (steps o n)) ≡ Some o) → r ≡ o
-      by (inl p) (inl q) = absurd (let n : ◌≡◌ {A = Option ℕ} None (Some r) = sym q ∙ p in cc)
-      by (inl p) (inr q) = same_thread r o (sym p ∙ q)
-      by (inr p) q = cc
-
-  -- who owns the mutex after the steps
-  owns_now : (a : St) (o n : ℕ) → m.owner a ≡ None → Holds m laws o a n → (m.owner (run m a (steps o n)) ≡ None) ⊎ (m.owner (run m a (steps o n)) ≡ Some o)
-  owns_now a o zero f h = inl f
-  owns_now a o (suc n) f h = inr (owner_held m laws o a n h)
-
   -- a step of the thread that goes on, or begins
   goes_on : (a : St) (o n : ℕ) (v : List Item) → Goal v → m.owner a ≡ None → Inv a → Holds m laws o a n →
       InWholeSections m (m.next (run m a (steps o n)) (Step o)) v → (x : Option ℕ) → m.owner (m.next (run m a (steps o n)) (Step o)) ≡ x →
       Reached (run m a (steps o n)) (Step o ∷ v)
   goes_on a o n v ih f k h w (Some r) e =
       let at : run m a (steps o (suc n)) ≡ m.next (run m a (steps o n)) (Step o) = run_more m laws o a n in
-      let same : r ≡ o = stays a o n r h (owns_now a o n f h) e in
+      let same : r ≡ o = stays m laws a o n r h (owns_now m laws a o n f h) e in
       let h' : Holds m laws o a (suc n) = holds_more m laws o a n h (e ∙ ap Some same) in
       later (run m a (steps o n)) (Step o) v (section a o n f k h).0 (
       subst (λ (b : St). Reached b v) at (ih a o (suc n) f k h' (subst (λ (b : St). InWholeSections m b v) (sym at) w))

@@ -122,7 +122,7 @@ next_within c a t x y n h e =
     (ap is_fault r ∙ g.defined, ap (after (within a t x n) t) r ∙ g.comes)
 
 -- the state after n of them, none of which is undefined, and after each of which the thread owns the mutex
-record Alone_for {P S L F : Type 0} (c : Code P S L F) (a : State P S L) (t : ℕ) (x y : Solo P S L) (j n : ℕ) : Type 0 where
+pub record Alone_for {P S L F : Type 0} (c : Code P S L F) (a : State P S L) (t : ℕ) (x y : Solo P S L) (j n : ℕ) : Type 0 where
   pub safe : IsSafe (moves c) (within a t x j) (steps t n)
   pub holds : Holds (moves c) (thread_laws c) t (within a t x j) n
   pub ends : run (moves c) (within a t x j) (steps t n) ≡ within a t y (j + n)
@@ -138,7 +138,7 @@ first_step {P = P} {S = S} {L = L} c a t x m y j n k r =
       ends = ap (λ (z : State P S L). run (moves c) z (steps t n)) k.1 ∙ r.ends ∙ ap (within a t y) same;
     }
 
-alone_for : {P S L F : Type 0} → (c : Code P S L F) (a : State P S L) (t : ℕ) (x y : Solo P S L) (j n : ℕ) → (th : Thread P) × (slice_get a.world.threads t ≡ Some th) →
+pub alone_for : {P S L F : Type 0} → (c : Code P S L F) (a : State P S L) (t : ℕ) (x y : Solo P S L) (j n : ℕ) → (th : Thread P) × (slice_get a.world.threads t ≡ Some th) →
     solos c t n x ≡ Some y → Alone_for c a t x y j n
 alone_for c a t x y j zero h e =
     let same : j ≡ j + zero = omega arith in
@@ -149,7 +149,7 @@ alone_for c a t x y j (suc n) h e =
 
 -- ---- a whole section
 
-split_solos : {P S L F : Type 0} → (c : Code P S L F) (t n most : ℕ) (x y : Solo P S L) → n ≤ most → solos c t most x ≡ Some y →
+pub split_solos : {P S L F : Type 0} → (c : Code P S L F) (t n most : ℕ) (x y : Solo P S L) → n ≤ most → solos c t most x ≡ Some y →
     (z : Solo P S L) × (k : ℕ) × (solos c t n x ≡ Some z) × (solos c t k z ≡ Some y) × (n + k ≡ most)
 split_solos c t zero most x y h e = (x, most, refl, e, omega arith)
 split_solos c t (suc n) zero x y h e = absurd (omega arith)
@@ -167,7 +167,7 @@ pub record Leaves {P S L F : Type 0} (c : Code P S L F) (a : State P S L) (t : �
 pub not_both : {A : Type 0} → (x : Option ℕ) (t : ℕ) → x ≡ None → x ≡ Some t → A
 not_both x t e k = absurd (let n : ◌≡◌ {A = Option ℕ} None (Some t) = sym e ∙ k in cc)
 
-held_within : {P S L F : Type 0} → (c : Code P S L F) (a : State P S L) (t n most j : ℕ) (x y : Solo P S L) → (th : Thread P) × (slice_get a.world.threads t ≡ Some th) →
+pub held_within : {P S L F : Type 0} → (c : Code P S L F) (a : State P S L) (t n most j : ℕ) (x y : Solo P S L) → (th : Thread P) × (slice_get a.world.threads t ≡ Some th) →
     Leaves c a t y → solos c t most x ≡ Some y → Holds (moves c) (thread_laws c) t (within a t x j) n → n ≤ most
 held_within c a t zero most j x y h l e k = omega arith
 held_within {P = P} {S = S} {L = L} c a t (suc n) zero j x y h l e k =
@@ -291,12 +291,12 @@ takes_there {P = P} {S = S} {L = L} {F = F} c a t act e = by (slice_get a.world.
     by None z =
         absurd (let n : ◌≡◌ {A = Answer P S L F} Over (Takes act) = sym (ap (answer_at c (hold a.world.owner t) a.world.shared t) z) ∙ e in cc)
 
-record Entered {P S L F : Type 0} (c : Code P S L F) (a : State P S L) (t : ℕ) (own : P) : Type 0 where
-  there : (th : Thread P) × (slice_get a.world.threads t ≡ Some th)
-  defined : undefined c a (Step t) ≡ false
-  within_is : next c a (Step t) ≡ within a t (begun a own) 1
+pub record Entered {P S L F : Type 0} (c : Code P S L F) (a : State P S L) (t : ℕ) (own : P) : Type 0 where
+  pub there : (th : Thread P) × (slice_get a.world.threads t ≡ Some th)
+  pub defined : undefined c a (Step t) ≡ false
+  pub within_is : next c a (Step t) ≡ within a t (begun a own) 1
 
-entered : {P S L F : Type 0} → (c : Code P S L F) (a : State P S L) (t : ℕ) (own : P) →
+pub entered : {P S L F : Type 0} → (c : Code P S L F) (a : State P S L) (t : ℕ) (own : P) →
     (answer c a.world t ≡ Takes (Locks own)) ⊎ (answer c a.world t ≡ Takes (Retakes own)) → Entered c a t own
 entered c a t own (inl e) = let l = locked c a t own e in record { there = takes_there c a t (Locks own) e; defined = l.0; within_is = l.1 }
 entered c a t own (inr e) = let l = retaken c a t own e in record { there = takes_there c a t (Retakes own) e; defined = l.0; within_is = l.1 }

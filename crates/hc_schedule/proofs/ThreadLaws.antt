@@ -6,7 +6,8 @@ use Rattle.std.proofs.lemmas.List.{set_comm, map-set}
 use Rattle.std.proofs.lemmas.Option.{slice_get-map, same_Some}
 use Rattle.hc_schedule.specs.declared.status.Status.{Status}
 use Rattle.hc_schedule.specs.declared.status.Status.TheVariants.{Ready, Waiting, Woken}
-use Rattle.hc_schedule.specs.Sections.{Item, Step, Wake, EverySchedule, is_of, Swap, Laws}
+use Rattle.hc_schedule.specs.Sections.{Item, Step, Wake, EverySchedule, is_of, Swap}
+use Rattle.hc_schedule.proofs.Laws.{Laws}
 use Rattle.hc_schedule.specs.Threads.{Thread, World, Act, Goes, Locks, Unlocks, Waits, Wakes, Works, Prints, Retakes, Turn, Returned, Fails, Does, Answer, Blocked, Over, Undefined, Takes, Code, Hold, Free, Mine, Others, hold, seen, allowed, answer_of, retaking, answer_by, answer_at, answer, stirred, stirred_thread, put, applied, waits, is_waiting, roused_from, roused_by}
 use Rattle.hc_schedule.specs.Schedule.{State, did, after, next, is_fault, undefined, is_stuck, idle, moves, is_aside, is_private, Footprint, is_blocked, held_up, ChangingPlaces}
 use Rattle.hc_schedule.proofs.Reduction.{every_schedule}

@@ -62,7 +62,7 @@ EverySchedule m s =
     ((v : List Item) → InWholeSections m s v → IsSafe m s v) →
     (w : List Item) → IsSafe m s w × ((v : List Item) × Reduces m s w v)
 
--- ---- laws of a machine from which this follows
+-- ---- items in the other order
 
 -- the thread that the item names
 abbrev pub is_of : ℕ → Item → Bool
@@ -75,14 +75,3 @@ pub record Swap {St : Type 0} (m : Moves St) (s : St) (o : ℕ) (i : Item) : Typ
   pub undefined_step : m.undefined (m.next s i) (Step o) ≡ m.undefined s (Step o)
   pub owner : m.owner (m.next s i) ≡ m.owner s
   pub meet : m.next (m.next s i) (Step o) ≡ m.next (m.next s (Step o)) i
-
-pub record Laws {St : Type 0} (m : Moves St) : Type 0 where
-  pub good : St → Bool
-  pub stays_good : (s : St) (i : Item) → good s ≡ true → good (m.next s i) ≡ true
-  pub idles : (s : St) (i : Item) → m.idle s i ≡ true → (m.undefined s i ≡ false) × (m.next s i ≡ s)
-  pub gains : (s : St) (i : Item) (q : ℕ) → m.owner (m.next s i) ≡ Some q → (m.owner s ≡ Some q) ⊎ (i ≡ Step q)
-  pub keeps : (s : St) (o : ℕ) (i : Item) → m.owner s ≡ Some o → is_of o i ≡ false → m.owner (m.next s i) ≡ Some o
-  pub awake : (s : St) (o : ℕ) → good s ≡ true → m.owner s ≡ Some o → m.idle s (Wake o) ≡ true
-  pub swaps :
-      (s : St) (o : ℕ) (i : Item) → good s ≡ true → m.owner (m.next s (Step o)) ≡ Some o → is_of o i ≡ false →
-      m.idle (m.next s (Step o)) i ≡ false → (m.idle s i ≡ false) × Swap m s o i

@@ -1,0 +1,13 @@
+pub mod Runs
+pub mod Views
+pub mod Block
+pub mod Loops
+pub mod Cases
+pub mod Private
+pub mod Cuts
+pub mod Inside
+pub mod Advance
+pub mod Told
+pub mod Laws
+pub mod Resting
+pub mod Paying

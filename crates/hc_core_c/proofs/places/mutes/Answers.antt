@@ -1,0 +1,5 @@
+use Rattle.hc_core_c.proofs.places.mutes.Goals as goal
+
+-- each call makes what its word says
+pub returns : goal.returns
+returns c = (c.calls.ensures _ (c.expr_then.ensures _ _ c.local.ensures c.no_exprs.ensures))

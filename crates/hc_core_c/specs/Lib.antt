@@ -1,0 +1,5 @@
+pub mod Twin
+pub mod Code
+pub mod Owner
+pub mod Cost
+pub mod Limits

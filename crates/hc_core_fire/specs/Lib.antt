@@ -1,0 +1,4 @@
+pub mod Firing
+pub mod Behind
+pub mod PassOfC
+pub mod First

@@ -1,0 +1,6 @@
+-- One less.
+use Rattle.std.proofs.Common.{length}
+use Rattle.hc_cstep.proofs.body.+push_lines.Given as goal
+
+abbrev pub decreases-push_lines : goal.decreases-push_lines
+decreases-push_lines g l = length l.ways.now

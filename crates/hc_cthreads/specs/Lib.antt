@@ -1,0 +1,11 @@
+pub mod Lines
+pub mod Promises
+pub mod Scenes
+pub mod Parts
+pub mod Outcomes
+pub mod Serving
+pub mod Bodies
+pub mod Views
+pub mod Pieces
+pub mod Reports
+pub mod Laws

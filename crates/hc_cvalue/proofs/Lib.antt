@@ -1,0 +1,16 @@
+pub mod Forms
+pub mod CondForms
+pub mod Rows
+pub mod Pieces
+pub mod Divisors
+pub mod Values
+pub mod TruthPieces
+pub mod Truths
+pub mod Conditions
+pub mod Heights
+pub mod Slopes
+pub mod Lines
+pub mod Affine
+pub mod Whole
+pub mod One
+pub mod Sizes
