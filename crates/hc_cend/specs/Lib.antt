@@ -1,0 +1,12 @@
+pub mod Candidates
+pub mod Laws
+pub mod Searching
+pub mod Places
+pub mod Written
+pub mod Tree
+pub mod Search
+pub mod Preparing
+pub mod Lining
+pub mod Ending
+pub mod Law
+pub mod Size

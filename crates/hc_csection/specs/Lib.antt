@@ -1,0 +1,9 @@
+pub mod Values
+pub mod Alike
+pub mod Words
+pub mod Fates
+pub mod Code
+pub mod Entering
+pub mod Pieces
+pub mod PrivateLaw
+pub mod Program
