@@ -1,6 +1,7 @@
 -- The program of a task has at most 200 statements for each unit of the task's size.
 use Rattle.std.specs.Prelude.{pos, ◌≡◌, ◌≤◌, ℕ, zero, suc, ◌+◌, ◌-◌, ◌*◌, List, [], ◌∷◌, ◌++◌, map, length, slice_get, Option, Some, None, codes}
-use Rattle.std.proofs.Common.{refl, sym, ap, ◌∙◌, subst, arith}
+use Rattle.std.proofs.Common.{refl, sym, ap, ◌∙◌, subst, arith, sum_by}
+use Rattle.std.proofs.lemmas.List.Sums.{sum_by-cons}
 use Rattle.std.proofs.lemmas.Option.{same_Some}
 use Rattle.hc_limits.specs.Limits.{most_nodes}
 use Rattle.hc_term.specs.declared.system.Process.{Process}
