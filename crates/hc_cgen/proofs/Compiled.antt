@@ -69,12 +69,12 @@ module _ (t : Task) (code : Codes) (compiled : AreCompiled t code) where
         let ruled = ruled_at n t.system.processes p x.0 (all_processes t) x.1 in
         let parted = and_parts (nat_le (length x.0.variables) most_variables && nat_le 1 (length x.0.body)) (list_all (is_stmt n (length x.0.variables)) x.0.body) ruled in
         let most : length x.0.variables ≤ most_variables =
-            leb-true (length x.0.variables) most_variables (and_parts (nat_le (length x.0.variables) most_variables) (nat_le 1 (length x.0.body)) parted.0).0 in
+        leb-true (length x.0.variables) most_variables (and_parts (nat_le (length x.0.variables) most_variables) (nat_le 1 (length x.0.body)) parted.0).0 in
         let small : vars ≤ 64 = omega (arith, same, most) in
         let statements : IsTrue (list_all (is_stmt n vars) x.0.body) = ap (λ (k : ℕ). list_all (is_stmt n k) x.0.body) same ∙ parted.1 in
         let lower : p < 64 = omega (arith, low, few) in
         let kept = compiled.keeps p x.0 x.1 in
         law_there g coded t p (case_steps most_blocks (steps_for most_nodes) (enough_for most_nodes) + 3) (private_of t p (code p))
         (λ clock.
-            private_code_stands g p lower (outside (search_names [])) [] refl (table p) n vars small (room coded p) (omega arith) clock t.seed most_nodes x.0.body (code p)
-            (are_coded p x.0 x.1).agree kept statements (limit_is_enough p n vars small x.0.body (code p) kept statements))
+        private_code_stands g p lower (outside (search_names [])) [] refl (table p) n vars small (room coded p) (omega arith) clock t.seed most_nodes x.0.body (code p)
+        (are_coded p x.0 x.1).agree kept statements (limit_is_enough p n vars small x.0.body (code p) kept statements))

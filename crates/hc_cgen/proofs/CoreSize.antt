@@ -91,9 +91,49 @@ few_in_all [] h = omega arith
 few_in_all (f ∷ fs) h = let rest = few_in_all fs h.1 in let one = h.0 in omega (arith, rest, one)
 
 each_few : (P C : ℕ) → AllFew (core_functions P C ++ section_functions)
-each_few P C =
-    (owner_size P, (stop_size, (count_size, (mute_size C, (go_size, (meet_size, (fire_size C, (able_size, (any_size P, (least_size P, (shift_size, (drift_size, (lower_size, (move_size P C,
-    (due_size P, (stand_size P, (length_size, (delay_size, (elapse_size, (wakes_size P, (pass_size P, (enter_size, (idle_size, tt)))))))))))))))))))))))
+each_few P C = (
+  owner_size P,
+  (
+    stop_size,
+    (
+      count_size,
+      (
+        mute_size C,
+        (
+          go_size,
+          (
+            meet_size,
+            (
+              fire_size C,
+              (
+                able_size,
+                (
+                  any_size P,
+                  (
+                    least_size P,
+                    (
+                      shift_size,
+                      (
+                        drift_size,
+                        (
+                          lower_size,
+                          (
+                            move_size P C,
+                            (due_size P, (stand_size P, (length_size, (delay_size, (elapse_size, (wakes_size P, (pass_size P, (enter_size, (idle_size, tt))))))))),
+                          ),
+                        ),
+                      ),
+                    ),
+                  ),
+                ),
+              ),
+            ),
+          ),
+        ),
+      ),
+    ),
+  ),
+)
 
 pub functions_few : (P C : ℕ) → function_sizes (core_functions P C ++ section_functions) ≤ 690
 functions_few P C = few_in_all (core_functions P C ++ section_functions) (each_few P C)

@@ -124,9 +124,9 @@ module _ (t : Task) (code : Codes) where
       let many : variables t from ≡ length x.variables = subst (λ (p : ℕ). variables t p ≡ length x.variables) here first.1 in
       let one = thread_few from in
       let rest = threads_few (suc from) xs
-          (λ k y e.
-              let next : from + suc k ≡ suc from + k = omega arith in
-              subst (λ (p : ℕ). (weights (code p) ≤ measure y + 1) × (variables t p ≡ length y.variables)) next (h (suc k) y e)) in
+      (λ k y e.
+      let next : from + suc k ≡ suc from + k = omega arith in
+      subst (λ (p : ℕ). (weights (code p) ≤ measure y + 1) × (variables t p ≡ length y.variables)) next (h (suc k) y e)) in
       omega (arith, light, many, one, rest)
 
   -- ---- the program

@@ -152,6 +152,7 @@ module _ (C n : ℕ) where
         by_over : (z : Bool) → ios ≡ [] → (if z then ios else []) ≡ []
         by_over true e = e
         by_over false e = refl
+
         nothing : (g channel : ℕ) (at slope : Rational) → slice_get [] g ≡ Some (Send channel at slope) → ⊥
         nothing g channel at slope f = cc
 
@@ -217,6 +218,7 @@ module _ (C n : ℕ) where
         offered false y f =
             offers_in s (rates_in rates s) branches ∙ ap (offered_by s (rates_in rates s)) (sym e)
             ∙ sym (ap (λ (b : Bool). offered_by s (rates_in rates s) (if not b then ios_of ways else [])) f)
+
         some_moves : (rs : List Rate) → 1 ≤ length rs → (slope : Rational) → (if is_empty (moving_of s rs) then zero_ℚ else slope) ≡ slope
         some_moves [] h slope = absurd (omega (arith, h))
         some_moves (y ∷ rs) h slope = refl
@@ -228,17 +230,17 @@ module _ (C n : ℕ) where
 
     plain_here : (i j : Instr) (l : Layer) → i ≡ j → phase_at true j ≡ 1 → rates_at j ≡ [] → ios_at j ≡ [] → private.Shows bounded own (shown l) → moving_here s l ≡ [] →
         offers_here s (bound_here s left l) l ≡ [] → PutsHere i l
-    plain_here i j l e one rates ios shows m o =
-        ([],
-        subst (λ (k : Instr). Puts C n own bounded (phase_at true k) (rates_at k) (if not (is_over bounded own) then ios_at k else []) s [] (shown l)) (sym e)
-        (
-        subst (λ (x : ℕ). Puts C n own bounded x (rates_at j) (if not (is_over bounded own) then ios_at j else []) s [] (shown l)) (sym one)
-        (
-        subst (λ (rs : List Rate). Puts C n own bounded 1 rs (if not (is_over bounded own) then ios_at j else []) s [] (shown l)) (sym rates)
-        (puts_plain l shows m o (ios_at j) ios)
-        )
-        )
-        )
+    plain_here i j l e one rates ios shows m o = (
+      [],
+      subst (λ (k : Instr). Puts C n own bounded (phase_at true k) (rates_at k) (if not (is_over bounded own) then ios_at k else []) s [] (shown l)) (sym e)
+          (
+          subst (λ (x : ℕ). Puts C n own bounded x (rates_at j) (if not (is_over bounded own) then ios_at j else []) s [] (shown l)) (sym one)
+          (
+          subst (λ (rs : List Rate). Puts C n own bounded 1 rs (if not (is_over bounded own) then ios_at j else []) s [] (shown l)) (sym rates)
+          (puts_plain l shows m o (ios_at j) ios)
+          )
+          ),
+    )
 
     pub puts_here : (i : Instr) (head : Stmt) (rest : List Stmt) (l : Layer) → AgreesHere t i head rest l → IsTrue (is_instr C n i) → private.Shows bounded own (shown l) → PutsHere i l
     puts_here i head rest Stmt-F.Skip h ruled shows = plain_here i (instr.Skip h.0) Stmt-F.Skip h.1 refl refl refl shows refl refl
@@ -321,11 +323,12 @@ module _ (C n : ℕ) where
         PutsAt (private.has_arrived mark) i (record { todo = todo; store = s; choices = choices; mark = mark })
     puts_by [] s choices mark i sized same shows h ruled =
         let x : Post = post_at clock s (bound_at s mark []) mark [] in
-        let arrived = private.has_arrived mark in
-        ([],
-        subst
-        (λ (k : Instr). Puts C n own bounded (phase_at arrived k) (if arrived then rates_at k else []) (if arrived && not (is_over bounded own) then ios_at k else []) s [] x) (sym h)
-        (ended_puts arrived s sized same x shows refl refl refl))
+        let arrived = private.has_arrived mark in (
+          [],
+          subst
+              (λ (k : Instr). Puts C n own bounded (phase_at arrived k) (if arrived then rates_at k else []) (if arrived && not (is_over bounded own) then ios_at k else []) s [] x) (sym h)
+              (ended_puts arrived s sized same x shows refl refl refl),
+        )
     puts_by (head ∷ rest) s choices Going i sized same shows h ruled =
         ([], nothing_puts s sized same (phase_at false i) going_post shows (going_phase i head rest (out-Stmt head) h) refl refl)
     puts_by (head ∷ rest) s choices (Arrived left) i sized same shows h ruled =

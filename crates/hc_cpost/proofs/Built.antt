@@ -65,7 +65,6 @@ few_ways i h = leb-true (length (ios_at i)) 32 (and_parts (nat_le (length (ios_a
 pub few_rates : (i : Instr) → is_small i ≡ true → list_all (λ (r : Rate). nat_lt r.variable 64) (rates_at i) ≡ true
 few_rates i h = (and_parts (nat_le (length (ios_at i)) 32) (list_all (λ (r : Rate). nat_lt r.variable 64) (rates_at i)) h).1
 
-
 pub follow_step : (n : ℕ) (w : Way) (ws : List Way) → follow_cases n (w ∷ ws) ≡ case_of n (follower w.next) ∷ follow_cases (n + 1) ws
 follow_step n w ws = cases_step (λ (g : ℕ) (v : Way). follower v.next) n w ws
 

@@ -306,6 +306,7 @@ module _ (g : CProgram) (k : Codes) (t : Task) (p : ℕ) (b : Pieces) (has : Has
     where
       cost : ℕ
       cost = post_cost g p (channels t) n i
+
       ss : List CStmt
       ss = post_code p n (k.code p)
 

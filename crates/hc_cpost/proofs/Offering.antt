@@ -46,6 +46,7 @@ all_by_among (d ∷ ds) h =
     or_first : (a b : Bool) → a ≡ true → (a || b) ≡ true
     or_first true b h = refl
     or_first false b h = absurd (true≢false (sym h))
+
     or_later : (a b : Bool) → b ≡ true → (a || b) ≡ true
     or_later true b h = refl
     or_later false b h = h
@@ -141,12 +142,16 @@ module _ (g : CProgram) (P C : ℕ) (has : Has g P C) (p : ℕ) (low : p < P) (o
     where
       q : Rational
       q = slice_index_or own 66 zero_ℚ
+
       mine : nat_lt p 65 ≡ true
       mine = is_below p 65 (let h = few in omega (arith, h))
+
       other : (p == 64) ≡ false
       other = not_same p 64 few
+
       self : (p == p) ≡ true
       self = eq-eqb p p refl
+
       told : (z y : Bool) → m.bounded ≡ z → is_zero q ≡ y → Runs g p 2 (tests_over p) (at m b) (at (record m { truth = m.bounded && is_zero q }) b)
       told false y e f =
           subst (λ (x : Bool). Runs g p 2 (tests_over p) (at m b) (at (record m { truth = x && is_zero q }) b)) (sym e)

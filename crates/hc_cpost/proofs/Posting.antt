@@ -132,6 +132,7 @@ module _ (g : CProgram) (P C : ℕ) (has : Has g P C) (p : ℕ) (low : p < P) (o
     where
       kept : Kept C n (ios_of ways)
       kept = guards_keep C n (ios_of ways) ruled
+
       by_mark : (z : Bool) → m.arrived ≡ z → Runs g p (1 + offered_cost (ios_of ways)) (where_arrived (offers p (ios_of ways))) (view m (first b)) (view m (shown (instr.Meet ways) b))
       by_mark true e =
           arrived_runs (offered_cost (ios_of ways)) (offers p (ios_of ways)) b m (with_parts p own [] (ios_of ways) (first b)) (shown (instr.Meet ways) b) e
@@ -152,12 +153,16 @@ module _ (g : CProgram) (P C : ℕ) (has : Has g P C) (p : ℕ) (low : p < P) (o
     where
       ios : List Io
       ios = ios_of ways
+
       parts : (is_evolution n rates domain ios ≡ true) × (are_guards C n ios ≡ true)
       parts = (let two = and_parts (is_evolution n rates domain ios) (are_guards C n ios) ruled in (two.0, two.1))
+
       kept : Kept C n ios
       kept = guards_keep C n ios parts.1
+
       rated : Rated C n rates
       rated = evolution_rated C n rates domain ios parts.0
+
       by_mark : (z : Bool) → m.arrived ≡ z →
           Runs g p (1 + evolved_cost rates ios) (where_arrived (evolves p rates ios)) (view m (first b))
           (view (after_case m own (instr.Evolve rates domain ways next)) (shown (instr.Evolve rates domain ways next) b))

@@ -165,8 +165,7 @@ sent_at s r j (io.Send c v ∷ ios) zero channel at slope e =
     let same : j ≡ j + 0 = omega arith in
     let ds = all_sent_registers (suc j) ios in
     subst (λ (i : ℕ). AreAmong i (all_sent_registers j (io.Send c v ∷ ios))) same
-    (
-    (
+    ((
       or_first (192 + j == 192 + j) ((256 + j == 192 + j) || is_among (192 + j) ds) (eq-eqb (192 + j) (192 + j) refl),
       or_later (192 + j == 256 + j) ((256 + j == 256 + j) || is_among (256 + j) ds) (or_first (256 + j == 256 + j) (is_among (256 + j) ds) (eq-eqb (256 + j) (256 + j) refl)),
     )

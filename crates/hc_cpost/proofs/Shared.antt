@@ -87,6 +87,7 @@ received_in_range C c (Send channel at slope ∷ os) h k =
 received_in_range C c (Receive channel ∷ os) h k = by_here (channel == c) refl (λ j. received_in_range C c os parts.1 j) where
   parts : (nat_lt channel C ≡ true) × (list_all (λ (o : Offer). nat_lt (channel_of o) C) os ≡ true)
   parts = (let two = and_parts (nat_lt channel C) (list_all (λ (o : Offer). nat_lt (channel_of o) C) os) h in (two.0, two.1))
+
   by_here : (b : Bool) → (channel == c) ≡ b → (list_any (is_offer false c) os ≡ true → c < C) → c < C
   by_here true e ih = subst (λ (d : ℕ). d < C) (eqb-true channel c e) (ltb-true channel C parts.0)
   by_here false e ih = ih (sym (ap (λ (z : Bool). z || list_any (is_offer false c) os) e) ∙ k)

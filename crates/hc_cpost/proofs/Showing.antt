@@ -132,7 +132,7 @@ module _ (C p n : ℕ) (own : List Rational) (bounded : Bool) (phase : ℕ) (rat
         let less = h.low in (
           variable_up m.variable less ∙ sym h.at,
           at_once (rate_of p m.variable) 128 m.variable refl (omega (arith, less, few)) (rate_among n rates ios (128 + m.variable) h.among)
-          ∙ rate_is own x.moving k m puts.shows.rates e,
+              ∙ rate_is own x.moving k m puts.shows.rates e,
         )
 
     flags_up : (i : ℕ) → i < 64 → nth up.moves (p * 64 + i) ≡ flag (list_any (λ (m : Moving). m.variable == i) x.moving)
@@ -165,7 +165,7 @@ module _ (C p n : ℕ) (own : List Rational) (bounded : Bool) (phase : ℕ) (rat
         subst (λ (j : ℕ). private.SentIs own j (Send channel at slope)) same (sent_is own 0 x.offers i (Send channel at slope) puts.shows.sent e) in (
           at_once (p * 320 + 192 + i) 192 i refl (omega (arith, few, many, low)) (sent_among n rates ios (192 + i) among.0) ∙ sent.0,
           at_once (p * 320 + 256 + i) 256 i refl (omega (arith, few, many, low)) (sent_among n rates ios (256 + i) among.1) ∙ sent.1
-          ∙ sym (puts.level i channel at slope e),
+              ∙ sym (puts.level i channel at slope e),
         )
 
     phase_there : p < length g.phase

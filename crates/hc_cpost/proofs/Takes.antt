@@ -57,6 +57,7 @@ module _ (clock : Rational) (x : Post) (keeps : KeepsPost clock x) where
   called_silent h = by_phase x.phase refl where
     by_due : (ph : Phase) → x.phase ≡ ph → is_going ph ≡ false → x.offers ≡ []
     by_due ph e f = keeps.silent (sym (ap (λ (z : Bool). z || is_due x.bound) (ap is_going e ∙ f)) ∙ h)
+
     by_phase : (ph : Phase) → x.phase ≡ ph → x.offers ≡ []
     by_phase phase.Going e = (shows_of phase.Going e).2
     by_phase phase.Arrived e = by_due phase.Arrived e refl

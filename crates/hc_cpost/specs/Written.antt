@@ -91,5 +91,5 @@ abbrev pub post_code : ℕ → ℕ → List Instr → List CStmt
 post_code p n code =
     call (codes "f_go") (number p ∷ [])
     ∷ (
-      copies p (own_registers n) ++ (phases p ++ Switch (local v_place) (show_cases p 0 code) [] ∷ [])
+    copies p (own_registers n) ++ (phases p ++ Switch (local v_place) (show_cases p 0 code) [] ∷ [])
     )

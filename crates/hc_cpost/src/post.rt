@@ -243,7 +243,9 @@ fn show_case(alloc: Global, p: u32, instr: &Instr) -> Result<List<CStmt>, AllocE
             where_arrived(alloc, offers)
         }
         Instr::Evolve {
-            rates, branches, ..
+            rates,
+            branches,
+            ..
         } => {
             let evolves = evolves(alloc, p, rates.as_slice(), branches.as_slice())?;
             where_arrived(alloc, evolves)

@@ -140,4 +140,3 @@ pub fn when_else(test: CExpr, yes: List<CStmt>, no: List<CStmt>) -> CStmt
         no: Some(no),
     }
 }
-
