@@ -18,11 +18,13 @@ use Rattle.hc_cpost.proofs.Agreeing.{guards_keep, evolution_rated}
 use Rattle.hc_cstep.specs.Locals.{v_place}
 use Rattle.hc_cbuild.specs.Written.{number}
 use Rattle.hc_cast.specs.declared.stmt.CStmt.TheVariants.{Set}
-use Rattle.std.proofs.lemmas.List.{length-map}
+use Rattle.std.proofs.lemmas.List.{length-map, take_more, length-take-le}
+use Rattle.std.specs.Prelude.{slice_index_or}
+use Rattle.hc_cstep.proofs.CasesMore.{cases_append}
 use Rattle.hc_cpost.specs.Taking.{fetch, fetches, follower, follow_cases, take_case, take_cases}
 use Rattle.std.specs.List.{list_all}
 use Rattle.std.proofs.lemmas.Bool.{and_parts, and_from, leb-true, ltb-true, lt-ltb, le-leb}
-use Rattle.std.proofs.Common.{IsTrue, ◌&&◌, Bool, true, nat_le, nat_lt, length, ◌≤◌}
+use Rattle.std.proofs.Common.{take, IsTrue, ◌&&◌, Bool, true, nat_le, nat_lt, length, ◌≤◌}
 
 pub below_step : (n : ℕ) → 0 < n → below n ≡ (n - 1) ∷ below (n - 1)
 below_step zero h = absurd (omega (arith, h))
@@ -125,3 +127,16 @@ all_small C n few [] h = refl
 all_small C n few (i ∷ is) h =
     let parts = and_parts (is_instr C n i) (list_all (is_instr C n) is) h in
     and_from (is_small i) (list_all is_small is) (small_is C n few i parts.0) (all_small C n few is parts.1)
+
+-- the cases of one place more
+pub one_case_more : (one : Instr → List CStmt) (code : List Instr) (place : ℕ) (i : Instr) (before after : List CCase) (body : List CStmt) (c : CCase) →
+    place < length code → i ≡ slice_index_or code place i → before ≡ cases_from (λ (at : ℕ) (x : Instr). one x) 0 (take place code) → body ≡ one i →
+    c ≡ case_of place body → after ≡ before ++ c ∷ [] → after ≡ cases_from (λ (at : ℕ) (x : Instr). one x) 0 (take (place + 1) code)
+one_case_more one code place i before after body c less is so_far body_is c_is after_is =
+    let here : ℕ → Instr → List CStmt = λ (at : ℕ) (x : Instr). one x in
+    let front : take (place + 1) code ≡ take place code ++ i ∷ [] = take_more code place i less ∙ ap (λ (x : Instr). take place code ++ x ∷ []) (sym is) in
+    let wide : 0 + length (take place code) ≡ place = let h = length-take-le place code (omega (arith, less)) in omega (arith, h) in
+    let same : cases_from here 0 (take place code ++ i ∷ []) ≡ cases_from here 0 (take place code) ++ case_of place (one i) ∷ [] =
+    cases_append here 0 (take place code) i ∙ ap (λ (at : ℕ). cases_from here 0 (take place code) ++ case_of at (one i) ∷ []) wide in
+    let last : c ≡ case_of place (one i) = c_is ∙ ap (case_of place) body_is in
+    after_is ∙ ap (λ (d : CCase). before ++ d ∷ []) last ∙ ap (λ (cs : List CCase). cs ++ case_of place (one i) ∷ []) so_far ∙ sym same ∙ ap (cases_from here 0) (sym front)

@@ -13,7 +13,7 @@ ghost use Rattle.hc_cpost.specs.Written as spec;
 
 use crate::words::{both, calls, local, number, same, set, store, takes, when, when_else};
 use hc_cast::{CCase, CExpr, CStmt};
-use hc_code::{Instr, Way};
+use hc_code::{Instr, ProcCode, Way};
 use hc_list::List;
 use hc_term::{Io, Rate};
 use std::alloc::{AllocError, Global};
@@ -275,28 +275,25 @@ pub(crate) fn switch(alloc: Global, on: CExpr, cases: List<CCase>) -> CStmt
 }
 
 /// The cases of all places.
-#[tactic(auto, using(crate::proofs::Built::show_step, crate::proofs::Built::few_ways, crate::proofs::Built::few_rates))]
-fn show_cases(alloc: Global, p: u32, code: &[Instr]) -> Result<List<CCase>, AllocError>
+fn show_cases(alloc: Global, p: u32, code: &ProcCode) -> Result<List<CCase>, AllocError>
     requires low { p < 64 }
-    requires short { length code.now ≤ 10001 }
-    requires small { list_all is_small code.now ≡ true }
-    ensures { IfOk result (λ cs. cs ≡ spec.show_cases p 0 code.now) }
+    requires small { list_all is_small code.now.instrs ≡ true }
+    ensures { IfOk result (λ cs. cs ≡ spec.show_cases p 0 code.now.instrs) }
 {
     let mut found = List::new(alloc);
-    for (at, instr) in code.iter().enumerate() {
-        let body = show_case(alloc, p, instr)?;
-        found.push(case(at as u32, body))?;
+    for place in 0..code.len() {
+        let body = show_case(alloc, p, code.at(place))?;
+        found.push(case(place, body))?;
     }
     Ok(found)
 }
 
 /// Posting: process `p`, of `n` variables and with this code, puts up what it shows.
-pub fn post_code(alloc: Global, p: u32, n: u32, code: &[Instr]) -> Result<List<CStmt>, AllocError>
+pub fn post_code(alloc: Global, p: u32, n: u32, code: &ProcCode) -> Result<List<CStmt>, AllocError>
     requires low { p < 64 }
     requires few { n ≤ 64 }
-    requires short { length code.now ≤ 10001 }
-    requires small { list_all is_small code.now ≡ true }
-    ensures { IfOk result (λ ss. ss ≡ spec.post_code p n code.now) }
+    requires small { list_all is_small code.now.instrs ≡ true }
+    ensures { IfOk result (λ ss. ss ≡ spec.post_code p n code.now.instrs) }
 {
     let mut arguments = List::new(alloc);
     arguments.push(number(p))?;

@@ -11,7 +11,7 @@ ghost use Rattle.hc_cpost.specs.Taking as spec;
 use crate::post::{case, switch};
 use crate::words::{calls, either, elem, first_of, less, local, number, set, some, when};
 use hc_cast::{CCase, CExpr, CStmt};
-use hc_code::{Instr, Way};
+use hc_code::{Instr, ProcCode, Way};
 use hc_list::List;
 use std::alloc::{AllocError, Global};
 
@@ -128,25 +128,22 @@ fn take_case(alloc: Global, p: u32, instr: &Instr) -> Result<List<CStmt>, AllocE
 }
 
 /// The cases of all places.
-#[tactic(auto, using(crate::proofs::Built::take_step, crate::proofs::Built::few_next))]
-fn take_cases(alloc: Global, p: u32, code: &[Instr]) -> Result<List<CCase>, AllocError>
-    requires short { length code.now ≤ 10001 }
-    requires small { list_all is_small code.now ≡ true }
-    ensures { IfOk result (λ cs. cs ≡ spec.take_cases p 0 code.now) }
+fn take_cases(alloc: Global, p: u32, code: &ProcCode) -> Result<List<CCase>, AllocError>
+    requires small { list_all is_small code.now.instrs ≡ true }
+    ensures { IfOk result (λ cs. cs ≡ spec.take_cases p 0 code.now.instrs) }
 {
     let mut found = List::new(alloc);
-    for (at, instr) in code.iter().enumerate() {
-        let body = take_case(alloc, p, instr)?;
-        found.push(case(at as u32, body))?;
+    for place in 0..code.len() {
+        let body = take_case(alloc, p, code.at(place))?;
+        found.push(case(place, body))?;
     }
     Ok(found)
 }
 
 /// The process goes on behind the branch by which it has met.
-fn goes_again(alloc: Global, p: u32, code: &[Instr]) -> Result<List<CStmt>, AllocError>
-    requires short { length code.now ≤ 10001 }
-    requires small { list_all is_small code.now ≡ true }
-    ensures { IfOk result (λ ss. ss ≡ spec.goes_again p code.now) }
+fn goes_again(alloc: Global, p: u32, code: &ProcCode) -> Result<List<CStmt>, AllocError>
+    requires small { list_all is_small code.now.instrs ≡ true }
+    ensures { IfOk result (λ ss. ss ≡ spec.goes_again p code.now.instrs) }
 {
     let cases = take_cases(alloc, p, code)?;
     let mut found = List::new(alloc);
@@ -167,12 +164,11 @@ fn sets_done(alloc: Global, p: u32) -> Result<CStmt, AllocError>
 }
 
 /// What a process takes over that goes on.
-fn take_parts(alloc: Global, p: u32, n: u32, code: &[Instr]) -> Result<List<CStmt>, AllocError>
+fn take_parts(alloc: Global, p: u32, n: u32, code: &ProcCode) -> Result<List<CStmt>, AllocError>
     requires low { p < 64 }
     requires few { n ≤ 64 }
-    requires short { length code.now ≤ 10001 }
-    requires small { list_all is_small code.now ≡ true }
-    ensures { IfOk result (λ ss. ss ≡ spec.take_parts p n code.now) }
+    requires small { list_all is_small code.now.instrs ≡ true }
+    ensures { IfOk result (λ ss. ss ≡ spec.take_parts p n code.now.instrs) }
 {
     let again = goes_again(alloc, p, code)?;
     let met = some(alloc, met_of(alloc, p)?)?;
@@ -185,12 +181,11 @@ fn take_parts(alloc: Global, p: u32, n: u32, code: &[Instr]) -> Result<List<CStm
 }
 
 /// Taking over: process `p`, of `n` variables and with this code, goes on from what has become of it, or is done.
-pub fn take_code(alloc: Global, p: u32, n: u32, code: &[Instr]) -> Result<List<CStmt>, AllocError>
+pub fn take_code(alloc: Global, p: u32, n: u32, code: &ProcCode) -> Result<List<CStmt>, AllocError>
     requires low { p < 64 }
     requires few { n ≤ 64 }
-    requires short { length code.now ≤ 10001 }
-    requires small { list_all is_small code.now ≡ true }
-    ensures { IfOk result (λ ss. ss ≡ spec.take_code p n code.now) }
+    requires small { list_all is_small code.now.instrs ≡ true }
+    ensures { IfOk result (λ ss. ss ≡ spec.take_code p n code.now.instrs) }
 {
     let parts = take_parts(alloc, p, n, code)?;
     let goes_on = less(alloc, local(b"v_done"), number(1))?;
