@@ -1,11 +1,14 @@
 -- The code of the lines of comparisons that stand in two lists.
-use Rattle.std.specs.Prelude.{◌≡◌, ◌≤◌, ℕ, suc, ◌+◌, List, [], ◌∷◌, ◌++◌, length, Result, Ok, Err, IfOk}
+use Rattle.std.specs.Prelude.{◌≡◌, ◌≤◌, ℕ, suc, ◌+◌, List, [], ◌∷◌, ◌++◌, length, Result, Ok, Err, IfOk, OnOk}
 use Rattle.std.proofs.Common.{refl, ap, sym, ◌∙◌, subst, arith, append_assoc}
 use Rattle.std.proofs.lemmas.List.{length-append}
 use Rattle.hc_term.specs.declared.expr.Expr.{Expr}
+use Rattle.hc_term.specs.declared.expr.Cond.{Cond}
 use Rattle.hc_cast.specs.declared.stmt.CStmt.{CStmt}
 use Rattle.hc_cend.specs.Places.{Places}
-use Rattle.hc_cend.specs.Lining.{Compared, gap_code, gaps_code}
+use Rattle.hc_cend.specs.Ending.{crosses_and_finds, end_code}
+use Rattle.hc_cend.specs.Law.{places}
+use Rattle.hc_cend.specs.Lining.{guard, compared, Compared, gap_code, gaps_code}
 
 -- the second list's comparisons are numbered behind those of the first
 pub gaps_append : (side : ℕ → Expr → List CStmt) (t : ℕ) (p : Places) (i : ℕ) (qs rs : List Compared) →
@@ -37,3 +40,15 @@ both_pushed side t p i next first second all qs rs ws before after new (Ok k) wh
       omega (arith, end, counted, long),
       omega (arith, most, few, sum),
     )
+
+-- the lines, and behind them the search in its guard, are the code of the end moment
+pub ends_pushed : {U E : Type 0} (side : ℕ → Expr → List CStmt) (t n : ℕ) (c : Cond) (before mid after search : List CStmt) (guarded : CStmt) (result : Result U E) →
+    n ≡ length (compared c) → mid ≡ before ++ gaps_code side t (places n) 0 (compared c) → search ≡ crosses_and_finds t (places n) n c → guarded ≡ guard search →
+    OnOk result (after ≡ mid ++ guarded ∷ []) → OnOk result (after ≡ before ++ end_code side t (places (length (compared c))) c)
+ends_pushed side t n c before mid after search guarded (Err e) counted lines found inside h = tt
+ends_pushed side t n c before mid after search guarded (Ok u) counted lines found inside h =
+    h
+    ∙ ap (λ (ss : List CStmt). ss ++ guarded ∷ []) lines
+    ∙ append_assoc before (gaps_code side t (places n) 0 (compared c)) (guarded ∷ [])
+    ∙ ap (λ (s : CStmt). before ++ (gaps_code side t (places n) 0 (compared c) ++ s ∷ [])) (inside ∙ ap guard found)
+    ∙ ap (λ (k : ℕ). before ++ (gaps_code side t (places k) 0 (compared c) ++ guard (crosses_and_finds t (places k) k c) ∷ [])) counted
