@@ -53,8 +53,11 @@ thread_pieces t p code = record {
 }
 
 -- while (v_done == 0) { STRETCH m_lock(); REPORT IDLE while (v_x == 1) { c_wait(p); IDLE } TAKE m_unlock(); } return 0;
+abbrev pub thread_of : Task → ℕ → List Instr → CBody
+thread_of t p code = record { locals = thread_locals; statements = body_of p (thread_pieces t p code) }
+
 abbrev pub thread : Task → Codes → ℕ → CBody
-thread t code p = record { locals = thread_locals; statements = body_of p (thread_pieces t p (code p)) }
+thread t code p = thread_of t p (code p)
 
 -- one for each of these processes, of which the first has number p
 abbrev pub threads_from : Task → Codes → ℕ → List Process → List CBody
