@@ -7,7 +7,7 @@ Without --values: the processes as lifelines, time downwards. What happens at on
 the trace; between two bands time passes, in proportion to the delay within bounds, and a dashed axis tells that a delay is
 out of scale. With --values: what passes on these channels over time, each value holding until the next. --from and --to cut
 a long trace by moments. Reads traces of version 2 (docs/TRACE.md), with or without an end line; a process that the trace doesn't
-name isn't drawn. A number of more than 14 characters is drawn as a decimal, and its text shows as a tooltip.
+name isn't drawn. A number of more than 14 characters is drawn as a decimal, and its text shows as a tooltip. Asks for Python 3.10 or later.
 """
 import argparse
 import sys
