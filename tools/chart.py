@@ -129,7 +129,8 @@ class Lifelines:
         self.processes = list(dict.fromkeys(name for it in events for name in (it.sender, it.receiver) if name))
         channels = list(dict.fromkeys(it.channel for it in events if it.kind == "comm"))
         self.colour = {it: COLOURS[number % len(COLOURS)] for number, it in enumerate(channels)}
-        widest = max([width_of(f"{it.channel or 'log'} {spelled(it.value)}") for it in happened] + [width_of(it) for it in self.processes] + [60])
+        labels = [f"{it.channel or 'log'} {spelled(it.value)}" for it in happened] + self.processes
+        widest = max([width_of(it) for it in labels] + [60])
         self.gap = max(150, widest + 56)
         self.left = 44 + max([width_of(spelled(it.clock)) for it in events] + [20])
         self.right = max(self.x_of(self.processes[-1]) if self.processes else self.left, self.left + 120) + self.gap / 2
@@ -154,7 +155,8 @@ class Lifelines:
         side = 1 if x2 > x1 else -1
         size = min(5, self.row / 3)
         head = f"M{x2:.1f} {y:.1f}l{-side * 1.8 * size:.1f} {-size:.1f}v{2 * size:.1f}z"
-        parts = [line(x1, y, x2 - side * size, y, stroke=colour, stroke_width=1.6), tag("path", d=head, fill=colour), tag("circle", cx=x1, cy=y, r=2.6, fill=colour)]
+        parts = [line(x1, y, x2 - side * size, y, stroke=colour, stroke_width=1.6), tag("path", d=head, fill=colour)]
+        parts.append(tag("circle", cx=x1, cy=y, r=2.6, fill=colour))
         if self.row >= LEGIBLE:
             # the label stands at the middle of the first gap, where no other lifeline passes
             label = said(it.channel, it.value, colour)
@@ -269,31 +271,38 @@ class Values:
                 yield words(x + 6, y_of(it.value) - 7, text, stroke="none", font_weight=600)
                 edge = x + width_of(text) + 4
 
+    def levels(self, known, y_of):
+        """Lines at values, with their names where they have room."""
+        edge = None
+        for value in known:
+            y = y_of(value)
+            yield line(self.left, y, self.WIDTH - self.right, y, stroke_dasharray="2 4")
+            if edge is None or edge - y >= 13:
+                yield words(self.left - 8, y + 4, spelled(value), text_anchor="end", fill=MUTED)
+                edge = y
+
+    def steps(self, passed, y_of):
+        """The step line: each value holds until the next, and the last one to the end."""
+        first, *rest = passed
+        corners = "".join(f"H{self.x_of(it.clock):.1f}V{y_of(it.value):.1f}" for it in rest)
+        path = f"M{self.x_of(first.clock):.1f} {y_of(first.value):.1f}{corners}H{self.x_of(self.finish):.1f}"
+        return tag("path", d=path, fill="none", stroke_width=2, stroke_linejoin="round")
+
     def panel(self, name, top, colour):
-        """A channel's axis, its step line and its values."""
+        """A channel with its ends, its levels, its step line and its values."""
         passed = self.passed[name]
-        least, most = min(it.value for it in passed), max(it.value for it in passed)
-        least, most = (least, most) if least < most else (least - 1, most + 1)
+        known = sorted({it.value for it in passed})
+        least, most = (known[0], known[-1]) if len(known) > 1 else (known[0] - 1, known[0] + 1)
         low, high = top + self.PANEL - 22, top + 34
 
         def y_of(value):
             return low - float((value - least) / (most - least)) * (low - high)
 
-        known = sorted({it.value for it in passed})
-        levels = known if len(known) <= 5 else ticks(least, most, 5)
-        parts = [words(self.left, top + 10, f'{escape(name)} <tspan fill="{MUTED}" font-weight="400">{escape(passed[0].sender)} → {escape(passed[0].receiver)}</tspan>', fill=colour, font_weight=600, font_size=13)]
-        for value in levels:
-            parts += [line(self.left, y_of(value), self.WIDTH - self.right, y_of(value), stroke=LINE, stroke_dasharray="2 4")]
-        # (the names of levels that stand too close are left out)
-        edge = None
-        for value in levels:
-            if edge is None or edge - y_of(value) >= 13:
-                parts.append(words(self.left - 8, y_of(value) + 4, spelled(value), text_anchor="end", fill=MUTED))
-                edge = y_of(value)
-        steps = f"M{self.x_of(passed[0].clock):.1f} {y_of(passed[0].value):.1f}" + "".join(f"H{self.x_of(it.clock):.1f}V{y_of(it.value):.1f}" for it in passed[1:])
-        steps += f"H{self.x_of(self.finish):.1f}"
-        inside = [tag("path", d=steps, fill="none", stroke_width=2, stroke_linejoin="round"), *self.labelled(passed, y_of)]
-        return [*parts, tag("g", "\n".join(inside), stroke=colour)]
+        ends = f'<tspan fill="{MUTED}" font-weight="400">{escape(passed[0].sender)} → {escape(passed[0].receiver)}</tspan>'
+        title = words(self.left, top + 10, f"{escape(name)} {ends}", fill=colour, font_weight=600, font_size=13)
+        levels = self.levels(known if len(known) <= 5 else ticks(least, most, 5), y_of)
+        inside = [self.steps(passed, y_of), *self.labelled(passed, y_of)]
+        return [title, *levels, tag("g", "\n".join(inside), stroke=colour)]
 
     def axis(self, y):
         """The moments below all panels, and the end."""
@@ -303,11 +312,12 @@ class Values:
             moments = ticks(self.begin, self.finish, 10)
         parts = [line(self.left, y, self.WIDTH - self.right, y, stroke=MUTED)]
         for it in moments:
-            parts += [line(self.x_of(it), y, self.x_of(it), y + 5, stroke=MUTED), words(self.x_of(it), y + 19, spelled(it), text_anchor="middle", fill=MUTED)]
+            x = self.x_of(it)
+            parts += [line(x, y, x, y + 5, stroke=MUTED), words(x, y + 19, spelled(it), text_anchor="middle", fill=MUTED)]
         if self.end:
             x = self.x_of(self.end.clock)
-            parts += [line(x, self.TOP - 10, x, y, stroke=LINE, stroke_width=1.4)]
-            parts += [words(x, self.TOP - 16, f'<tspan font-weight="600" fill="{INK}">end</tspan> {escape(self.end.channel)}', text_anchor="end", fill=MUTED)]
+            label = f'<tspan font-weight="600" fill="{INK}">end</tspan> {escape(self.end.channel)}'
+            parts += [line(x, self.TOP - 10, x, y, stroke_width=1.4), words(x, self.TOP - 16, label, text_anchor="end", fill=MUTED)]
         return parts
 
     def draw(self):
@@ -335,7 +345,8 @@ def main():
         events = events_of(sys.stdin.read())
     except NotATrace as error:
         sys.exit(f"chart: {error}")
-    events = [it for it in events if (given.first is None or it.clock >= given.first) and (given.last is None or it.clock <= given.last)]
+    first, last = given.first or 0, given.last
+    events = [it for it in events if it.clock >= first and (last is None or it.clock <= last)]
     if not events:
         sys.exit("chart: nothing to draw")
     carried = {it.channel for it in events if it.kind == "comm"}
