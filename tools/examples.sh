@@ -1,5 +1,5 @@
 #!/usr/bin/env bash
-# Runs each example as its first line says (`# hcsp WORDS`), and each text of C by `cexec`, and compares what stands on output
+# Runs each example, published models too, as its first line says (`# hcsp WORDS`), and each text of C by `cexec`, and compares what stands on output
 # with NAME.trace or NAME.verdict, or on error with NAME.refusal, and the status with the one that this answer has. The last
 # line is 'N examples, M differ'; the status is 1 where one differs.
 set -u
@@ -24,7 +24,7 @@ err=$(mktemp)
 trap 'rm -f "$out" "$err"' EXIT
 all=0
 wrong=0
-for source in "$home"/examples/*.hcsp "$home"/examples/*.c; do
+for source in "$home"/examples/*.hcsp "$home"/examples/published/*.hcsp "$home"/examples/*.c; do
   words=(cexec)
   [ "${source##*.}" = c ] || read -r -a words < <(sed -n '1s/^# hcsp //p' "$source")
   "$home/hcsp" "${words[@]}" < "$source" > "$out" 2> "$err"
